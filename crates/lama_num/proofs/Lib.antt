@@ -1,0 +1,2 @@
+pub mod NameLength
+pub mod Reading

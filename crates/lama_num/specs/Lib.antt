@@ -1,0 +1,7 @@
+pub mod DecimalLaws
+pub mod Decimals
+pub mod Estimates
+pub mod Gives
+pub mod Lists
+pub mod NameLaws
+pub mod Names
