@@ -1,0 +1,6 @@
+pub mod Files
+pub mod Folder
+pub mod Host
+pub mod Laws
+pub mod Pieces
+pub mod Streams
