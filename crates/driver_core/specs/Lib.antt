@@ -1,0 +1,9 @@
+pub mod Pasts
+pub mod Settings
+pub mod Keeping
+pub mod Running
+pub mod Legal
+pub mod Ends
+pub mod States
+pub mod Standing
+pub mod Laws

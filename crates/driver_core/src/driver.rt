@@ -1,0 +1,230 @@
+// The core: what a driver needs of all events so far.
+ghost use Rattle.std.specs.Prelude.{◌≡◌, ◌<◌, ◌≤◌, true, List, [], ◌∷◌, ◌++◌, length, IfOk};
+ghost use Rattle.std.specs.List.{list_all};
+ghost use Rattle.driver_core.specs.Settings.{is_share, share_of, most_plans};
+
+use crate::events::{Action, Event};
+use crate::settings::Setting;
+use crate::shares::portion;
+use exit_codes::{Codes, Part, combine, norm};
+use lama_num::{NoMemory, Seq, duplicate_items};
+use std::alloc::Global;
+use std::marker::Model;
+
+/// How many plans a run keeps at most.
+const MOST_PLANS: u32 = 9999;
+
+/// The event core of a run. It stores no events: it stands for a list of them.
+#[derive(Debug, Drop)]
+pub struct Core {
+    setting: Setting,
+    bound: Option<u64>,
+    kept: u32,
+    unended: u32,
+    last: bool,
+    out_of_time: bool,
+    codes: Codes,
+}
+
+impl Model for Core {
+    ghost use Rattle.std.specs.Prelude.{◌≡◌, ◌<◌, ◌≤◌, true, length};
+    ghost use Rattle.std.specs.List.{list_all};
+    ghost use Rattle.driver_core.specs.States.{CoreState, state_code};
+    ghost use Rattle.driver_core.specs.Settings.{is_share};
+
+    ghost Value = { CoreState };
+
+    ghost coded = { state_code };
+
+    ghost view = { λ c. record {
+      setting = c.setting;
+      bound = c.bound;
+      kept = c.kept;
+      unended = c.unended;
+      last = c.last;
+      out_of_time = c.out_of_time;
+      codes = c.codes;
+    } };
+
+    ghost invariant = { λ c. (0 < length c.setting.shares)
+        × (length c.setting.shares ≤ 1000)
+        × (list_all is_share c.setting.shares ≡ true) };
+}
+
+impl Core {
+    ghost use Rattle.driver_core.specs.Legal.{IsAllowed};
+    ghost use Rattle.driver_core.specs.Running.{action_of, is_over_after, stop_or};
+    ghost use Rattle.driver_core.specs.Keeping.{bound_of};
+    ghost use Rattle.driver_core.specs.Ends.{code_of};
+    ghost use Rattle.driver_core.specs.Standing.{StandsFor};
+    ghost use Rattle.driver_core.specs.States.{is_done, accepts, all_codes};
+    ghost use Rattle.driver_core.specs.States.{state_after, answer_of, after_candidate, candidate_answer};
+    ghost use Rattle.driver_core.specs.declared.events.Event.{Event};
+
+    /// A core before the first event.
+    ///
+    /// Times are in milliseconds. There are 1 to 1,000 relative times, each from 1 to 1,000,000.
+    /// Plans must cost less than `bound`; with `single` the run ends with its first plan.
+    pub fn new(
+        alloc: Global,
+        shares: &[u32],
+        start: u64,
+        limit: Option<u64>,
+        bound: Option<u64>,
+        single: bool,
+    ) -> Result<Core, NoMemory>
+        requires some { 0 < length shares.now }
+        requires few { length shares.now ≤ 1000 }
+        requires each { list_all is_share shares.now ≡ true }
+        ensures setting { IfOk result (λ core. core.setting
+            ≡ record { shares = shares.now; start = start; limit = limit; bound = bound; single = single }) }
+        ensures stands { IfOk result (λ core. StandsFor core []) }
+    {
+        let shares = Seq::from(duplicate_items(alloc, shares)?);
+        let unended = shares.len() as u32;
+        Ok(Core {
+            setting: Setting {
+                shares,
+                start,
+                limit,
+                bound,
+                single,
+            },
+            bound,
+            kept: 0,
+            unended,
+            last: false,
+            out_of_time: false,
+            codes: Codes::none(),
+        })
+    }
+
+    /// Takes the next event, and says what to do.
+    ///
+    /// The event should be one that may come after those so far; of others nothing is said.
+    pub fn step(&mut self, event: Event) -> Action
+        ensures setting { self.new.setting ≡ self.old.setting }
+        ensures stands { (events : List Event) → StandsFor self.old events
+            → IsAllowed self.old.setting events event → StandsFor self.new (events ++ event ∷ []) }
+        ensures answers { (events : List Event) → StandsFor self.old events
+            → IsAllowed self.old.setting events event → result ≡ action_of self.old.setting events event }
+    {
+        self.advance(event)
+    }
+
+    /// Takes an event into what the core holds.
+    fn advance(&mut self, event: Event) -> Action
+        ensures state { self.new ≡ state_after self.old event }
+        ensures answer { result ≡ answer_of self.old event }
+    {
+        match event {
+            Event::Began { .. } => self.stop_or(Action::Go),
+            Event::Candidate { cost, .. } => self.offer(cost),
+            Event::Ended { part, last, .. } => {
+                self.unended = self.unended.saturating_sub(1);
+                self.last = self.last || last;
+                self.codes = self.codes.union(norm(part));
+                self.stop_or(Action::Go)
+            }
+            Event::OutOfTime { .. } => {
+                self.out_of_time = true;
+                self.codes = self.codes.union(norm(Part::OutOfTime));
+                Action::Stop
+            }
+        }
+    }
+
+    /// Takes a candidate, with its cost where it is a plan.
+    fn offer(&mut self, cost: Option<u64>) -> Action
+        ensures state { self.new ≡ after_candidate self.old cost }
+        ensures answer { result ≡ candidate_answer self.old cost }
+    {
+        let Some(cost) = cost else {
+            return self.stop_or(Action::Drop);
+        };
+        if !self.accepts(cost) {
+            return self.stop_or(Action::Drop);
+        }
+        let index = self.kept;
+        self.bound = Some(cost);
+        self.kept += 1;
+        Action::Keep { index }
+    }
+
+    /// Whether a plan of this cost would be kept.
+    fn accepts(&self, cost: u64) -> bool
+        ensures answer { result ≡ accepts self.now cost }
+        ensures few { result ≡ true → self.now.kept < 9999 }
+    {
+        self.bound.is_none_or(|bound| cost < bound) && self.kept < self.most()
+    }
+
+    /// How many plans the run keeps.
+    fn most(&self) -> u32
+        ensures most { result ≡ most_plans self.now.setting.single }
+        ensures few { result ≤ 9999 }
+    {
+        if self.setting.single { 1 } else { MOST_PLANS }
+    }
+
+    /// Stop where the run is over, else the other action.
+    fn stop_or(&self, other: Action) -> Action
+        ensures { result ≡ stop_or other (is_done self.now) }
+    {
+        if self.is_done() { Action::Stop } else { other }
+    }
+
+    fn is_done(&self) -> bool
+        ensures { result ≡ is_done self.now }
+    {
+        self.out_of_time || self.last || self.kept >= self.most() || self.unended == 0
+    }
+
+    /// Whether the run is over.
+    pub fn is_over(&self) -> bool
+        ensures { (events : List Event) → StandsFor self.now events
+            → result ≡ is_over_after self.now.setting events }
+    {
+        self.is_done()
+    }
+
+    /// What a plan must cost less than.
+    pub fn bound(&self) -> Option<u64>
+        ensures { (events : List Event) → StandsFor self.now events
+            → result ≡ bound_of self.now.setting events }
+    {
+        self.bound
+    }
+
+    /// The exit code of a run that has had these events and no more.
+    pub fn code(&self) -> u8
+        ensures { (events : List Event) → StandsFor self.now events
+            → result ≡ code_of self.now.setting events }
+    {
+        combine(self.all_codes(), self.kept > 0)
+    }
+
+    /// The codes of all parts of the run so far.
+    fn all_codes(&self) -> Codes
+        ensures { result ≡ all_codes self.now }
+    {
+        if self.kept == MOST_PLANS {
+            self.codes.union(norm(Part::PlanLimit))
+        } else {
+            self.codes
+        }
+    }
+
+    /// An entry's share of the time that is left at a moment, in milliseconds, where the run has a
+    /// limit: as its relative time stands to those of the entries from this one on, at least 1.
+    pub fn share(&self, entry: u32, moment: u64) -> Option<u64>
+        requires first { 1 ≤ entry }
+        requires last { entry ≤ length self.now.setting.shares }
+        requires begun { self.now.setting.start ≤ moment }
+        ensures { result ≡ share_of self.now.setting entry moment }
+    {
+        let limit = self.setting.limit?;
+        let left = limit.saturating_sub(moment - self.setting.start);
+        Some(portion(left, self.setting.shares.as_slice(), entry as usize - 1))
+    }
+}

@@ -1,0 +1,12 @@
+//! Exit codes: those of the parts of a run, as sets, and the one code of the whole run.
+#![tactic(auto)]
+
+mod combined;
+mod parts;
+mod sets;
+#[cfg(test)]
+mod tests;
+
+pub use combined::combine;
+pub use parts::{Part, norm};
+pub use sets::Codes;
