@@ -1,0 +1,3 @@
+pub mod Axioms
+pub mod Within
+pub mod Written

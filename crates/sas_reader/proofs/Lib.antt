@@ -1,0 +1,4 @@
+pub mod Changes
+pub mod Cuts
+pub mod Digits
+pub mod Walking

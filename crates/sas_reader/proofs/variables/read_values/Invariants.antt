@@ -1,0 +1,9 @@
+use Rattle.std.proofs.Common.{◌≡◌, drop}
+use Rattle.sas_reader.specs.Formats.{each}
+use Rattle.sas_reader.specs.TaskText.{initial}
+use Rattle.sas_reader.specs.Walks.{walk}
+use Rattle.sas_reader.proofs.Walking.{behind}
+use Rattle.sas_reader.proofs.variables.read_values.Given as goal
+
+abbrev pub invariant-loop-range : goal.invariant-loop-range
+invariant-loop-range l = behind l.values.items (walk (each initial (drop l.range-index l.ranges)) l.cursor) ≡ walk (each initial l.ranges) l.fn.cursor
