@@ -1,0 +1,105 @@
+-- What a report tells.
+use Rattle.std.specs.Prelude.{◌≡◌, ◌≢◌, ℕ, ◌≤◌, List, [], ◌∷◌, length, Bool, true, false, if◌then◌else◌, slice_get, Option, Some, None}
+use Rattle.std.specs.List.{list_any}
+use Rattle.sas_task.specs.declared.contents.Parts.{Parts}
+use Rattle.sas_task.specs.declared.plans.Kept.{Kept}
+use Rattle.sas_task.specs.Runs.{IsPlan, cost_of}
+use Rattle.sas_reader.specs.Walks.{IsTextOf}
+use Rattle.lama_host.specs.Folder.{Told, IsUntouched}
+use Rattle.driver_run.specs.declared.report.Ended.{Ended}
+use Rattle.driver_run.specs.declared.report.Ended.TheVariants as ended
+use Rattle.driver_run.specs.declared.report.Report.{Report}
+use Rattle.driver_run.specs.declared.report.EntryEnd.{EntryEnd}
+use Rattle.driver_run.specs.declared.report.Outcome.{Outcome}
+use Rattle.driver_run.specs.declared.report.Outcome.TheVariants as outcome
+use Rattle.driver_run.specs.declared.report.Why.{Why}
+use Rattle.driver_run.specs.declared.report.Why.TheVariants as why
+use Rattle.driver_run.specs.declared.report.WordsFault.TheVariants.{Refused}
+use Rattle.driver_run.specs.declared.running.TaskFile.{TaskFile}
+use Rattle.driver_run.specs.declared.running.TaskFile.TheVariants as file
+use Rattle.driver_run.specs.Leaves.{Leaves}
+use Rattle.driver_run.specs.PlanText.{plan_text}
+use Rattle.driver_run.specs.Spaces.{IsExhausted}
+
+-- a fact on the report, where there is one
+abbrev pub IfDone : Ended → (Report → Type 0) → Type 0
+IfDone (ended.Done report) P = P report
+IfDone ended.NoMemory P = Unit {0}
+
+-- the report on words that aren't accepted
+abbrev pub refusal : Report
+refusal = record { task = None; kept = []; ends = []; why = why.Words Refused; code = 36 }
+
+abbrev pub NoTask : List ℕ → Type 0
+NoTask bytes = (parts : Parts) → IsTextOf bytes parts → ⊥
+
+-- What the report says of what the named file held, where no call failed: that it isn't there, that it isn't the
+-- text of a task, or the task that it is the text of.
+abbrev pub TellsTask : Option (List ℕ) → Option Parts → Why → Type 0
+TellsTask held task why.Finished = (bytes : List ℕ) × (parts : Parts) × (held ≡ Some bytes) × (task ≡ Some parts) × IsTextOf bytes parts
+TellsTask held task (why.NoFile input) = (held ≡ None) × (task ≡ None)
+TellsTask held task (why.Task fault) = (bytes : List ℕ) × (held ≡ Some bytes) × (task ≡ None) × NoTask bytes
+TellsTask held task (why.Words fault) = ⊥
+TellsTask held task why.Fault = Unit {0}
+
+-- a plan of the task, found by the one entry, with its cost
+pub record IsKept (task : Option Parts) (kept : Kept) : Type 0 where
+  pub parts : Parts
+  pub of_task : task ≡ Some parts
+  pub by_entry : kept.entry ≡ 1
+  pub plan : IsPlan parts kept.ops
+  pub cost_is : kept.cost ≡ cost_of parts kept.ops
+
+-- each kept plan is one, and there is at most one
+pub record KeepsPlans (report : Report) : Type 0 where
+  pub plans : (k : ℕ) (kept : Kept) → slice_get report.kept k ≡ Some kept → IsKept report.task kept
+  pub most : length report.kept ≤ 1
+
+-- the text of the one kept plan
+abbrev pub kept_text : Option Parts → List Kept → Option (List ℕ)
+kept_text None kept = None
+kept_text (Some parts) [] = None
+kept_text (Some parts) (kept ∷ more) = Some (plan_text parts kept.ops)
+
+-- with a plan kept; or with nothing kept and the whole space that can be reached, so that no plan exists
+abbrev pub IsOutcome : Report → Outcome → Type 0
+IsOutcome report outcome.Over = length report.kept ≡ 1
+IsOutcome report (outcome.Unsolvable space) = (report.kept ≡ []) × (parts : Parts) × (report.task ≡ Some parts) × IsExhausted parts space × ((ops : List ℕ) → IsPlan parts ops → ⊥)
+
+-- Where the run finished, its one entry ended; else none did, and nothing is kept.
+abbrev pub EndsAs : Report → List EntryEnd → Type 0
+EndsAs report [] = (report.why ≢ why.Finished) × (report.kept ≡ [])
+EndsAs report (end ∷ []) = (report.why ≡ why.Finished) × (end.entry ≡ 1) × IsOutcome report end.outcome
+EndsAs report (end ∷ (second ∷ more)) = ⊥
+
+abbrev pub is_unsolvable : EntryEnd → Bool
+is_unsolvable end = unsolvable end.outcome
+  where
+    unsolvable : Outcome → Bool
+    unsolvable outcome.Over = false
+    unsolvable (outcome.Unsolvable space) = true
+
+-- with a plan 0, else 11 where an entry ended Unsolvable
+abbrev pub finished_code : List Kept → List EntryEnd → ℕ
+finished_code [] ends = if list_any is_unsolvable ends then 11 else 12
+finished_code (kept ∷ more) ends = 0
+
+-- the exit code: a function of why the run ended, what it kept and how its entries ended
+abbrev pub code_of : Why → List Kept → List EntryEnd → ℕ
+code_of why.Finished kept ends = finished_code kept ends
+code_of (why.Words fault) kept ends = 36
+code_of (why.NoFile input) kept ends = 36
+code_of (why.Task fault) kept ends = 34
+code_of why.Fault kept ends = 35
+
+-- what is told of the task's file
+abbrev pub TellsFile : Option (List ℕ) → TaskFile → Type 0
+TellsFile held (file.Task parts) = (bytes : List ℕ) × (held ≡ Some bytes) × IsTextOf bytes parts
+TellsFile held file.Missing = held ≡ None
+TellsFile held (file.Refused fault) = (bytes : List ℕ) × (held ≡ Some bytes) × NoTask bytes
+TellsFile held file.Failed = Unit {0}
+
+-- a plan's text was written, or nothing was touched
+abbrev pub Writes : Told → Told → Option (List ℕ) → Type 0
+Writes before now None = IsUntouched before now
+Writes before now (Some text) = Leaves before now (Some text)

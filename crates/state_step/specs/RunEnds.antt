@@ -1,0 +1,66 @@
+-- How runs of operators end.
+use Rattle.std.specs.Prelude.{◌≡◌, ℕ, suc, ◌-◌, ◌<◌, ◌≤◌, List, [], ◌∷◌, ◌++◌, length, take, drop, true, false, slice_index, Option, Some, None, option_and_then}
+use Rattle.std.proofs.Common.{arith, refl, sym, ap, ◌∙◌}
+use Rattle.std.proofs.Math.Seq.{drop-cons}
+use Rattle.std.proofs.lemmas.List.{take-append-drop}
+use Rattle.sas_task.specs.declared.contents.Parts.{Parts}
+use Rattle.sas_task.specs.States.{step}
+use Rattle.sas_task.specs.Runs.{IsPlan, start_of, end_of, is_goal, cost_of}
+use Rattle.state_step.specs.Steps.{is_applicable, step-none}
+use Rattle.state_step.specs.declared.runs.RunEnd.{RunEnd}
+use Rattle.state_step.specs.declared.runs.RunEnd.TheVariants.{Goal, NoGoal, NotApplicable}
+
+-- the operators lead from the initial state to one that isn't a goal
+pub record MissesGoal (parts : Parts) (ops : List ℕ) : Type 0 where
+  pub last : List ℕ
+  pub leads : end_of parts (start_of parts) ops ≡ Some last
+  pub no_goal : is_goal parts last ≡ false
+
+-- The operator of a step, from 1, isn't applicable in the state to which those before it lead.
+pub record StopsAt (parts : Parts) (ops : List ℕ) (step : ℕ) : Type 0 where
+  pub last : List ℕ
+  pub from_one : 0 < step
+  pub within : step ≤ length ops
+  pub leads : end_of parts (start_of parts) (take (step - 1) ops) ≡ Some last
+  pub stops : is_applicable parts last (slice_index ops (step - 1)) ≡ false
+
+-- how the run of operators ends
+abbrev pub Ends : Parts → List ℕ → RunEnd → Type 0
+Ends parts ops (Goal cost) = IsPlan parts ops × (cost ≡ cost_of parts ops)
+Ends parts ops (NoGoal cost) = MissesGoal parts ops × (cost ≡ cost_of parts ops)
+Ends parts ops (NotApplicable step) = StopsAt parts ops step
+
+-- where a run goes on from what it reached
+end_of-join : (parts : Parts) (start ops more : List ℕ) (mid : List ℕ) → end_of parts start ops ≡ Some mid → end_of parts start (ops ++ more) ≡ end_of parts mid more
+end_of-join parts start [] more mid is = let s : Some start ≡ Some mid = is in let e : start ≡ mid = cc in rw e refl
+end_of-join parts start (first ∷ ops) more mid is =
+    elim (step parts start first) as (λ o. option_and_then (λ next. end_of parts next ops) o ≡ Some mid → option_and_then (λ next. end_of parts next (ops ++ more)) o ≡ end_of parts mid more) [
+      | None ↦ λ e. let k : ◌≡◌ {A = Option (List ℕ)} None (Some mid) = e in cc
+      | Some next ↦ λ e. end_of-join parts next ops more mid e
+    ] is
+
+-- operators that don't reach the goal are no plan
+pub misses-plan : (parts : Parts) (ops : List ℕ) → MissesGoal parts ops → IsPlan parts ops → ⊥
+misses-plan parts ops misses plan =
+    let same : Some misses.last ≡ Some plan.last = sym misses.leads ∙ plan.leads in
+    let last : misses.last ≡ plan.last = cc in
+    let goal : is_goal parts misses.last ≡ true = rw last plan.goal in
+    let clash : false ≡ true = sym misses.no_goal ∙ goal in
+    cc
+
+-- Operators that stop lead nowhere.
+pub stops-end_of : (parts : Parts) (ops : List ℕ) (at : ℕ) → StopsAt parts ops at → end_of parts (start_of parts) ops ≡ None
+stops-end_of parts ops at stops =
+    let lt : at - 1 < length ops = omega (arith, stops.from_one, stops.within) in
+    let split : take (at - 1) ops ++ drop (at - 1) ops ≡ ops = take-append-drop (at - 1) ops in
+    let rest : drop (at - 1) ops ≡ slice_index ops (at - 1) ∷ drop (suc (at - 1)) ops = drop-cons ops (at - 1) 0 lt in
+    let join = end_of-join parts (start_of parts) (take (at - 1) ops) (drop (at - 1) ops) stops.last stops.leads in
+    let none = step-none parts stops.last (slice_index ops (at - 1)) stops.stops in
+    let stuck : end_of parts stops.last (drop (at - 1) ops) ≡ None = rw (rest, none) refl in
+    sym (ap (end_of parts (start_of parts)) split) ∙ join ∙ stuck
+
+-- and are no plan
+pub stops-plan : (parts : Parts) (ops : List ℕ) (at : ℕ) → StopsAt parts ops at → IsPlan parts ops → ⊥
+stops-plan parts ops at stops plan =
+    let clash : ◌≡◌ {A = Option (List ℕ)} None (Some plan.last) = sym (stops-end_of parts ops at stops) ∙ plan.leads in
+    cc
