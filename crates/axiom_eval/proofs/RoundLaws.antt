@@ -66,6 +66,3 @@ all_rules_within variables init (rule ∷ rules) are =
 
 pub rules_within : (parts : Parts) (n : ℕ) → IsWellFormed parts → n ≡ length parts.variables → IsTrue (list_all (rule_is_within n) parts.rules)
 rules_within parts n formed is = rw is (all_rules_within parts.variables parts.init parts.rules formed.rules)
-
-pub init_long : (parts : Parts) → IsWellFormed parts → length parts.init ≡ length parts.variables
-init_long parts formed = let e = (both (nat_eq (length parts.init) (length parts.variables)) _ formed.init).0 in grind (arith, nat_tests, e)
