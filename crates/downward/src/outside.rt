@@ -10,16 +10,21 @@ use std::rt::{Clock as SystemClock, Files};
 use std::time::Instant;
 use std::{fs, io};
 
-/// The current folder. It starts no children.
+/// The current folder. It starts no children, so that no slot is ever in use.
 #[derive(Drop)]
 pub struct RealHost<'a, R: Files> {
     rt: &'a R,
+    running: Option<u32>,
     faults: u64,
 }
 
 impl<'a, R: Files> RealHost<'a, R> {
     pub fn new(rt: &'a R) -> RealHost<'a, R> {
-        RealHost { rt, faults: 0 }
+        RealHost {
+            rt,
+            running: None,
+            faults: 0,
+        }
     }
 }
 
@@ -85,7 +90,7 @@ fn create_empty<R: Files>(rt: &R, name: &str) -> io::Result<()> {
 impl<'a, R: Files> Folder for RealHost<'a, R> {
     ghost use Rattle.downward.specs.Untold.{untold};
 
-    ghost told = { λ h. untold h.faults };
+    ghost told = { λ h. untold h.running h.faults };
 
     fn read_some(&mut self, name: &str, start: u64, buf: &mut [u8]) -> Result<Piece, Failed> {
         let answer = read_at(self.rt, name, start, buf);
@@ -126,6 +131,7 @@ impl<'a, R: Files> Host for RealHost<'a, R> {
     }
 
     fn wait(&mut self, _slot: u32) -> Result<ChildEnd, Failed> {
+        self.running = None;
         self.faults = self.faults.saturating_add(1);
         Err(Failed)
     }

@@ -15,6 +15,7 @@ pub struct SmallHost {
     alloc: Global,
     files: Vec<SmallFile>,
     reads_fail: bool,
+    running: Option<u32>,
     faults: u64,
 }
 
@@ -38,6 +39,7 @@ impl SmallHost {
             alloc,
             files: Vec::new(alloc),
             reads_fail: false,
+            running: None,
             faults: 0,
         }
     }
@@ -50,7 +52,7 @@ impl SmallHost {
 
     /// Makes a file with this text.
     pub fn put(&mut self, name: &str, text: &str) -> Result<(), AllocError>
-        ensures { self.new.faults ≡ self.old.faults }
+        ensures { (self.new.faults ≡ self.old.faults) × (self.new.running ≡ self.old.running) }
     {
         self.forget(name);
         let name = String::from_str(self.alloc, name)?;
@@ -75,16 +77,16 @@ impl SmallHost {
     }
 
     fn forget(&mut self, name: &str)
-        ensures { self.new.faults ≡ self.old.faults }
+        ensures { (self.new.faults ≡ self.old.faults) × (self.new.running ≡ self.old.running) }
     {
         self.files.retain(|file| file.name.as_str() != name);
     }
 }
 
 impl Folder for SmallHost {
-    ghost use Rattle.std.specs.Prelude.{[], None};
+    ghost use Rattle.std.specs.Prelude.{option_to_list, None};
 
-    ghost told = { λ h. record { content = None; moments = None; faults = h.faults; busy = []; left = None; started = None } };
+    ghost told = { λ h. record { content = None; moments = None; faults = h.faults; busy = option_to_list h.running; left = None; started = None } };
 
     fn read_some(&mut self, name: &str, start: u64, buf: &mut [u8]) -> Result<Piece, Failed> {
         if self.reads_fail {
@@ -144,6 +146,7 @@ impl Host for SmallHost {
     }
 
     fn wait(&mut self, _slot: u32) -> Result<ChildEnd, Failed> {
+        self.running = None;
         self.faults = self.faults.saturating_add(1);
         Err(Failed)
     }
