@@ -3,6 +3,7 @@ use Rattle.std.specs.Prelude.{ℕ, List, [], ◌++◌, Bool, nat_eq, if◌then�
 use Rattle.std.specs.List.{list_all, flat_map}
 use Rattle.sas_task.specs.declared.contents.Operator.{Operator}
 use Rattle.sas_task.specs.declared.contents.Parts.{Parts}
+use Rattle.sas_task.specs.Costs.{is_unit_cost}
 use Rattle.sas_task.specs.Runs.{cost_of}
 
 -- the name of an operator
@@ -16,10 +17,6 @@ name_at parts op = name (slice_get parts.operators op)
 -- a step: the operator's name in parentheses
 abbrev pub step_line : List ℕ → List ℕ
 step_line name = codes "(" ++ name ++ codes ")\n"
-
--- every operator costs 1
-abbrev pub is_unit_cost : Parts → Bool
-is_unit_cost parts = list_all (λ o. nat_eq o.cost 1) parts.operators
 
 abbrev pub kind_of_cost : Bool → List ℕ
 kind_of_cost unit = if unit then codes " (unit cost)\n" else codes " (general cost)\n"

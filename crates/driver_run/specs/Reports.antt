@@ -1,10 +1,12 @@
 -- What a report tells.
-use Rattle.std.specs.Prelude.{◌≡◌, ◌≢◌, ℕ, ◌≤◌, List, [], ◌∷◌, length, Bool, true, false, if◌then◌else◌, slice_get, Option, Some, None}
+use Rattle.std.specs.Prelude.{◌≡◌, ◌≢◌, ℕ, ◌≤◌, List, [], ◌∷◌, length, Bool, true, false, if◌then◌else◌, slice_get, take, Option, Some, None, Result, Ok, Err}
 use Rattle.std.specs.List.{list_any}
 use Rattle.sas_task.specs.declared.contents.Parts.{Parts}
 use Rattle.sas_task.specs.declared.plans.Kept.{Kept}
 use Rattle.sas_task.specs.Runs.{IsPlan, cost_of}
-use Rattle.sas_reader.specs.Walks.{IsTextOf}
+use Rattle.sas_reader.specs.declared.faults.SasFault.{SasFault}
+use Rattle.sas_reader.specs.declared.faults.SasFault.TheVariants as fault
+use Rattle.sas_reader.specs.Walks.{task_of}
 use Rattle.lama_host.specs.Folder.{Told, IsUntouched}
 use Rattle.driver_run.specs.declared.report.Ended.{Ended}
 use Rattle.driver_run.specs.declared.report.Ended.TheVariants as ended
@@ -30,15 +32,16 @@ IfDone ended.NoMemory P = Unit {0}
 abbrev pub refusal : Report
 refusal = record { task = None; kept = []; ends = []; why = why.Words Refused; code = 36 }
 
-abbrev pub NoTask : List ℕ → Type 0
-NoTask bytes = (parts : Parts) → IsTextOf bytes parts → ⊥
+-- what the bytes of a task's file give: the task whose text they are, or their first fault; of a file that is too long it is that of as many bytes as are read of it
+abbrev pub task_in : List ℕ → Result Parts SasFault
+task_in bytes = task_of (take 268435457 bytes)
 
--- What the report says of what the named file held, where no call failed: that it isn't there, that it isn't the
--- text of a task, or the task that it is the text of.
+-- What the report says of what the named file held, where no call failed: that it isn't there, its first fault, or
+-- the task that it is the text of.
 abbrev pub TellsTask : Option (List ℕ) → Option Parts → Why → Type 0
-TellsTask held task why.Finished = (bytes : List ℕ) × (parts : Parts) × (held ≡ Some bytes) × (task ≡ Some parts) × IsTextOf bytes parts
+TellsTask held task why.Finished = (bytes : List ℕ) × (parts : Parts) × (held ≡ Some bytes) × (task ≡ Some parts) × (task_in bytes ≡ Ok parts)
 TellsTask held task (why.NoFile input) = (held ≡ None) × (task ≡ None)
-TellsTask held task (why.Task fault) = (bytes : List ℕ) × (held ≡ Some bytes) × (task ≡ None) × NoTask bytes
+TellsTask held task (why.Task fault) = (bytes : List ℕ) × (held ≡ Some bytes) × (task ≡ None) × (task_in bytes ≡ Err fault)
 TellsTask held task (why.Words fault) = ⊥
 TellsTask held task why.Fault = Unit {0}
 
@@ -84,19 +87,32 @@ abbrev pub finished_code : List Kept → List EntryEnd → ℕ
 finished_code [] ends = if list_any is_unsolvable ends then 11 else 12
 finished_code (kept ∷ more) ends = 0
 
+-- a quantity above its limit, or a derived variable that isn't binary, is what this planner doesn't support
+abbrev pub task_code : SasFault → ℕ
+task_code (fault.TooLarge what count) = 34
+task_code (fault.WideDerived var) = 34
+task_code _ = 33
+
 -- the exit code: a function of why the run ended, what it kept and how its entries ended
 abbrev pub code_of : Why → List Kept → List EntryEnd → ℕ
 code_of why.Finished kept ends = finished_code kept ends
 code_of (why.Words fault) kept ends = 36
 code_of (why.NoFile input) kept ends = 36
-code_of (why.Task fault) kept ends = 34
+code_of (why.Task bad) kept ends = task_code bad
 code_of why.Fault kept ends = 35
+
+-- what is told of bytes that were read
+abbrev pub TellsBytes : Result Parts SasFault → TaskFile → Type 0
+TellsBytes read (file.Task parts) = read ≡ Ok parts
+TellsBytes read file.Missing = ⊥
+TellsBytes read (file.Refused fault) = read ≡ Err fault
+TellsBytes read file.Failed = ⊥
 
 -- what is told of the task's file
 abbrev pub TellsFile : Option (List ℕ) → TaskFile → Type 0
-TellsFile held (file.Task parts) = (bytes : List ℕ) × (held ≡ Some bytes) × IsTextOf bytes parts
+TellsFile held (file.Task parts) = (bytes : List ℕ) × (held ≡ Some bytes) × (task_in bytes ≡ Ok parts)
 TellsFile held file.Missing = held ≡ None
-TellsFile held (file.Refused fault) = (bytes : List ℕ) × (held ≡ Some bytes) × NoTask bytes
+TellsFile held (file.Refused fault) = (bytes : List ℕ) × (held ≡ Some bytes) × (task_in bytes ≡ Err fault)
 TellsFile held file.Failed = Unit {0}
 
 -- a plan's text was written, or nothing was touched

@@ -4,21 +4,14 @@ ghost use Rattle.std.specs.List.{list_all};
 ghost use Rattle.lama_host.specs.Folder.{Keeps, WhereTold};
 ghost use Rattle.sas_task.specs.Runs.{cost_of};
 ghost use Rattle.driver_run.specs.Leaves.{Leaves};
-ghost use Rattle.driver_run.specs.PlanText.{is_unit_cost as unit_cost, kind_of_cost as the_kind, step_line, cost_line, plan_text as the_text};
+ghost use Rattle.driver_run.specs.PlanText.{kind_of_cost as the_kind, step_line, cost_line, plan_text as the_text};
 
 use crate::words::PLAN_NAME;
 use itoa::Buffer;
 use lama_host::{Failed, Folder};
 use lama_num::{NoMemory, Seq};
-use sas_task::{Operator, Task};
+use sas_task::Task;
 use std::alloc::{AllocError, Global};
-
-/// Whether every operator costs 1.
-fn is_unit_cost(operators: &[Operator]) -> bool
-    ensures { result ≡ list_all (λ o. nat_eq o.cost 1) operators.now }
-{
-    operators.iter().all(|operator| operator.cost == 1)
-}
 
 fn kind_of_cost(unit: bool) -> &'static [u8]
     ensures { result.now ≡ the_kind unit }
@@ -58,7 +51,7 @@ pub fn plan_text(alloc: Global, task: &Task, ops: &[u32], cost: u64) -> Result<S
     for op in ops {
         push_step(&mut text, &operators[*op as usize].name)?;
     }
-    push_cost(&mut text, is_unit_cost(operators), cost)?;
+    push_cost(&mut text, task.is_unit_cost(), cost)?;
     Ok(Seq::from(text))
 }
 

@@ -4,7 +4,8 @@ ghost use Rattle.std.specs.FinMap.{get};
 ghost use Rattle.lama_host.specs.Folder.{IsUntouched, WhereTold, Rose};
 ghost use Rattle.sas_task.specs.WellFormed.{IsWellFormed};
 ghost use Rattle.driver_run.specs.Leaves.{Leaves};
-ghost use Rattle.driver_run.specs.Reports.{IfDone, refusal, TellsTask, KeepsPlans, kept_text, EndsAs, code_of, TellsFile, Writes};
+ghost use Rattle.driver_run.specs.Reports.{IfDone, refusal, TellsTask, KeepsPlans, kept_text, EndsAs, code_of, TellsBytes, TellsFile, Writes, task_code as the_task_code};
+ghost use Rattle.sas_reader.specs.Walks.{task_of as text_of_task};
 ghost use Rattle.driver_run.specs.Spaces.{IsExhausted};
 ghost use Rattle.driver_run.specs.Visits.{IsPlanOf, Finds};
 ghost use Rattle.driver_run.specs.Words.{request_of, plan_name};
@@ -18,11 +19,17 @@ use crate::words::request;
 use lama_host::{Clock, Failed, Folder, Host, Sink};
 use lama_num::{NoMemory, Seq};
 use sas_reader::{SasError, SasFault, read};
-use sas_task::{Kept, Task};
+use sas_task::{Kept, Task, What};
 use std::alloc::Global;
 
 /// The most bytes of a task's file.
 const MOST_BYTES: u64 = 268_435_456;
+
+/// The fault of a file that is too long, of which one byte more than the limit is read.
+const TOO_LONG: SasFault = SasFault::TooLarge {
+    what: What::Bytes,
+    count: MOST_BYTES + 1,
+};
 
 /// What became of reading the task's file.
 #[derive(Debug, Drop)]
@@ -34,7 +41,7 @@ pub enum TaskFile {
 }
 
 fn task_of(alloc: Global, bytes: &[u8]) -> Result<TaskFile, NoMemory>
-    ensures tells { IfOk result (TellsFile (Some bytes.now)) }
+    ensures tells { IfOk result (TellsBytes (text_of_task bytes.now)) }
     ensures some { result ≢ Ok TaskFile.Failed }
 {
     match read(alloc, bytes) {
@@ -55,7 +62,7 @@ fn read_task<F: Folder>(alloc: Global, folder: &mut F, name: &str) -> Result<Tas
         Err(ReadError::Failed) => Ok(TaskFile::Failed),
         Err(ReadError::NoMemory) => Err(NoMemory),
         Ok(Whole::Missing) => Ok(TaskFile::Missing),
-        Ok(Whole::TooLong) => Ok(TaskFile::Refused(SasFault::NotPlain)),
+        Ok(Whole::TooLong) => Ok(TaskFile::Refused(TOO_LONG)),
         Ok(Whole::Bytes(bytes)) => task_of(alloc, &bytes),
     }
 }
@@ -67,6 +74,16 @@ fn one<T: Drop>(alloc: Global, item: T) -> Result<Seq<T>, NoMemory>
     let mut items = Seq::new(alloc);
     items.push(item)?;
     Ok(items)
+}
+
+/// The exit code of a task's fault.
+fn task_code(fault: SasFault) -> u8
+    ensures { result ≡ the_task_code fault }
+{
+    match fault {
+        SasFault::TooLarge { .. } | SasFault::WideDerived { .. } => 34,
+        _ => 33,
+    }
 }
 
 /// The report of a run that no entry ended.
@@ -183,7 +200,7 @@ fn run_task<F: Folder>(alloc: Global, folder: &mut F, name: &str) -> Result<Repo
     match read_task(alloc, folder, name)? {
         TaskFile::Task(task) => solve(alloc, folder, task),
         TaskFile::Missing => Ok(stopped(alloc, None, Why::NoFile(Input::Task), 36)),
-        TaskFile::Refused(fault) => Ok(stopped(alloc, None, Why::Task(fault), 34)),
+        TaskFile::Refused(fault) => Ok(stopped(alloc, None, Why::Task(fault), task_code(fault))),
         TaskFile::Failed => Ok(stopped(alloc, None, Why::Fault, 35)),
     }
 }

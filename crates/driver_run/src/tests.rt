@@ -1,9 +1,14 @@
 // Runs over a small folder in memory, and what they leave.
+ghost use Rattle.std.specs.Prelude.{◌≡◌, ◌<◌, ◌↔◌, IsTrue, length};
+
 use crate::{
     Ended, EntryEnd, Input, Outcome, ReadError, Report, Whole, Why, WordsFault, read_whole, run,
 };
+use axiom_eval::Axioms;
 use lama_num::NoMemory;
-use sas_reader::SasFault;
+use sas_reader::{SasFault, read};
+use sas_task::Task;
+use state_step::Stepper;
 use std::alloc::{AllocError, Global};
 use std::process::Abort;
 use std::test::Fail;
@@ -27,9 +32,19 @@ fn cut() -> &'static str {
     "begin_version\n3\nend_version\nbegin_metric\n1\nend_metric\n1\nbegin_variable\nvar0\n-1\n3\nAtom at(p0)\nAtom at(p1)\nAtom at(p2)\nend_variable\n0\nbegin_state\n0\nend_state\nbegin_goal\n"
 }
 
-/// A task whose one variable has a layer.
+/// A task whose one variable is derived and has three values.
 fn layered() -> &'static str {
     "begin_version\n3\nend_version\nbegin_metric\n1\nend_metric\n1\nbegin_variable\nvar0\n0\n3\nAtom at(p0)\nAtom at(p1)\nAtom at(p2)\nend_variable\n0\nbegin_state\n0\nend_state\nbegin_goal\n1\n0 2\nend_goal\n0\n0\n"
+}
+
+/// Two layers of derived variables: the goal is that the upper one is false.
+fn two_layers() -> &'static str {
+    "begin_version\n3\nend_version\nbegin_metric\n0\nend_metric\n3\nbegin_variable\nvar0\n-1\n2\nAtom x(0)\nAtom x(1)\nend_variable\nbegin_variable\nvar1\n0\n2\nAtom d(0)\nAtom d(1)\nend_variable\nbegin_variable\nvar2\n1\n2\nAtom e(0)\nAtom e(1)\nend_variable\n0\nbegin_state\n0\n0\n0\nend_state\nbegin_goal\n1\n2 0\nend_goal\n1\nbegin_operator\nflip\n0\n1\n0 0 0 1\n1\nend_operator\n2\nbegin_rule\n1\n0 1\n1 0 1\nend_rule\nbegin_rule\n1\n1 0\n2 0 1\nend_rule\n"
+}
+
+/// Two variables change their values by conditional effects.
+fn swap() -> &'static str {
+    "begin_version\n3\nend_version\nbegin_metric\n0\nend_metric\n2\nbegin_variable\nvar0\n-1\n2\nAtom x(0)\nAtom x(1)\nend_variable\nbegin_variable\nvar1\n-1\n2\nAtom y(0)\nAtom y(1)\nend_variable\n0\nbegin_state\n0\n1\nend_state\nbegin_goal\n2\n0 1\n1 0\nend_goal\n1\nbegin_operator\nswap\n0\n4\n1 1 1 0 -1 1\n1 1 0 0 -1 0\n1 0 1 1 -1 1\n1 0 0 1 -1 0\n1\nend_operator\n0\n"
 }
 
 /// The text of the plan of one jump: 33 bytes.
@@ -85,7 +100,8 @@ fn expect_run(
 #[test]
 fn tasks_are_solved(rt: HostRuntime) -> Result<(), Fail> {
     let alloc = rt.alloc();
-    let not_plain = Why::Task(SasFault::NotPlain);
+    let cut_short = Why::Task(SasFault::CutShort { line: 21 });
+    let wide = Why::Task(SasFault::WideDerived { var: 0 });
     let missing = Why::NoFile(Input::Task);
     expect_run(
         &rt,
@@ -96,10 +112,73 @@ fn tasks_are_solved(rt: HostRuntime) -> Result<(), Fail> {
         Some(jump()),
     )?;
     expect_run(&rt, alloc, Some(no_operator()), 11, Why::Finished, None)?;
-    expect_run(&rt, alloc, Some(cut()), 34, not_plain, None)?;
-    expect_run(&rt, alloc, Some(layered()), 34, not_plain, None)?;
+    expect_run(&rt, alloc, Some(cut()), 33, cut_short, None)?;
+    expect_run(&rt, alloc, Some(layered()), 34, wide, None)?;
     expect_run(&rt, alloc, None, 36, missing, None)?;
     assert_eq!(rt; jump().len(), 33);
+    Ok(())
+}
+
+#[test]
+fn rules_and_conditions_are_heeded(rt: HostRuntime) -> Result<(), Fail> {
+    let alloc = rt.alloc();
+    let flip = Some("(flip)\n; cost = 1 (unit cost)\n");
+    expect_run(&rt, alloc, Some(two_layers()), 0, Why::Finished, flip)?;
+    let swapped = Some("(swap)\n; cost = 1 (unit cost)\n");
+    expect_run(&rt, alloc, Some(swap()), 0, Why::Finished, swapped)?;
+    Ok(())
+}
+
+fn has_three_variables(task: &Task) -> bool
+    ensures { IsTrue result ↔ (length task.now.variables ≡ 3) }
+{
+    task.parts().variables.len() == 3
+}
+
+fn has_an_operator(task: &Task) -> bool
+    ensures { IsTrue result ↔ (0 < length task.now.operators) }
+{
+    !task.parts().operators.as_slice().is_empty()
+}
+
+/// The initial state of a task of three variables, and the state after its first operator.
+fn first_states(
+    rt: &impl Abort,
+    alloc: Global,
+    task: &Task,
+) -> Result<([u32; 3], [u32; 3]), NoMemory> {
+    assert!(rt; has_three_variables(task));
+    assert!(rt; has_an_operator(task));
+    let mut stepper = Stepper::new(alloc, task)?;
+    let mut start = [7, 7, 7];
+    stepper.initial(task, &mut start);
+    assert!(rt; stepper.applicable(task, &start, 0));
+    let mut next = [7, 7, 7];
+    stepper.apply_into(task, &start, 0, &mut next);
+    Ok((start, next))
+}
+
+/// What settling makes of values of three variables.
+fn settled(
+    rt: &impl Abort,
+    alloc: Global,
+    task: &Task,
+    values: [u32; 3],
+) -> Result<[u32; 3], NoMemory> {
+    assert!(rt; has_three_variables(task));
+    let mut settled = values;
+    Axioms::new(alloc, task)?.settle(task, &mut settled);
+    Ok(settled)
+}
+
+#[test]
+fn derived_variables_follow(rt: HostRuntime) -> Result<(), Fail> {
+    let alloc = rt.alloc();
+    let task = read(alloc, two_layers().as_bytes())?;
+    let (start, next) = first_states(&rt, alloc, &task)?;
+    assert_eq!(rt; start, [0, 0, 1]);
+    assert_eq!(rt; next, [1, 1, 0]);
+    assert_eq!(rt; settled(&rt, alloc, &task, [1, 0, 0])?, [1, 1, 0]);
     Ok(())
 }
 

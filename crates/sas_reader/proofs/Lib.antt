@@ -1,4 +1,9 @@
-pub mod Changes
+pub mod Accepting
 pub mod Cuts
-pub mod Digits
+pub mod Firsts
+pub mod Gathering
+pub mod GivenLines
+pub mod Inverting
+pub mod Parts
+pub mod Prevailing
 pub mod Walking

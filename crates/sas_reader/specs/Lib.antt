@@ -1,5 +1,7 @@
+pub mod FirstFault
 pub mod Formats
 pub mod Lines
-pub mod Numbers
+pub mod Reading
+pub mod Shapes
 pub mod TaskText
 pub mod Walks

@@ -1,15 +1,16 @@
--- Walks over a format: the text of something, or none.
-use Rattle.std.specs.Prelude.{◌≡◌, ℕ, ◌≤◌, List, [], ◌∷◌, ◌++◌, map, length, Option, Some, None, Result, Ok, Err}
+-- Walks over a format: what a text gives, or its first fault.
+use Rattle.std.specs.Prelude.{◌≡◌, ℕ, ◌+◌, List, [], ◌∷◌, ◌++◌, map, length, nat_eq, nat_le, if◌then◌else◌, Option, Some, None, Result, Ok, Err}
 use Rattle.lama_num.specs.Gives.{◌>>=◌}
-use Rattle.sas_reader.specs.Lines.{lines_of}
+use Rattle.sas_reader.specs.Lines.{Place, lines_of}
 use Rattle.sas_reader.specs.Formats.{Format, Done, Line, Kind, Value, value_of}
 use Rattle.sas_reader.specs.TaskText.{task, preconditions}
-use Rattle.sas_task.specs.WellFormed.{IsWellFormed, IsPlain}
 use Rattle.sas_task.specs.declared.contents.Fact.{Fact}
 use Rattle.sas_task.specs.declared.contents.Effect.{Effect}
+use Rattle.sas_task.specs.Refusals.{brought}
 use Rattle.sas_task.specs.declared.contents.Parts.{Parts}
 use Rattle.sas_reader.specs.declared.faults.SasFault.{SasFault}
-use Rattle.sas_reader.specs.declared.faults.SasFault.TheVariants.{NotPlain}
+use Rattle.sas_reader.specs.declared.faults.SasFault.TheVariants.{CutShort, Trailing, TooLarge}
+use Rattle.sas_task.specs.declared.refusals.What.TheVariants.{Bytes}
 use Rattle.sas_reader.specs.declared.faults.SasError.{SasError}
 use Rattle.sas_reader.specs.declared.faults.SasError.TheVariants.{Bad, NoMemory}
 
@@ -17,49 +18,51 @@ abbrev pub fault_of : SasError → Option SasFault
 fault_of (Bad fault) = Some fault
 fault_of NoMemory = None
 
--- something, or the fault
-abbrev pub or_refused : {A : Type 0} → Option A → Result A SasFault
-or_refused None = Err NotPlain
-or_refused (Some x) = Ok x
+-- the next line, which has to be there
+abbrev pub first_line : Place → Result (List ℕ × Place) SasFault
+first_line place = first place.left
+  where
+    first : List (List ℕ) → Result (List ℕ × Place) SasFault
+    first [] = Err (CutShort place.line)
+    first (line ∷ lines) = Ok (line, record { left = lines; line = place.line + 1 })
 
--- the first of the lines that are left, and those behind it
-abbrev pub first_line : List (List ℕ) → Result (List ℕ × List (List ℕ)) SasFault
-first_line [] = Err NotPlain
-first_line (line ∷ lines) = Ok (line, lines)
-
--- what a reading gives of the next line, and the lines behind it
-unfoldable pub next_by : {A : Type 0} → (List ℕ → Option A) → List (List ℕ) → Result (A × List (List ℕ)) SasFault
-next_by reading lines = do
-  first ← first_line lines
-  value ← or_refused (reading first.0)
+-- what a reading gives of the next line and its number, and the place behind it
+unfoldable pub next_by : {A : Type 0} → (ℕ → List ℕ → Result A SasFault) → Place → Result (A × Place) SasFault
+next_by reading place = do
+  first ← first_line place
+  value ← reading place.line first.0
   Ok (value, first.1)
 
--- what the next line gives, and the lines behind it
-abbrev pub next : (kind : Kind) → List (List ℕ) → Result (Value kind × List (List ℕ)) SasFault
-next kind lines = next_by (value_of kind) lines
+-- what the next line gives
+abbrev pub next : (kind : Kind) → Place → Result (Value kind × Place) SasFault
+next kind place = next_by (value_of kind) place
 
--- what the lines give, each being what the format wants after those before it, and the lines that are left
-abbrev pub walk : {A : Type 0} → Format A → List (List ℕ) → Result (A × List (List ℕ)) SasFault
-walk (Done x) lines = Ok (x, lines)
-walk (Line kind onward) lines = next kind lines >>= λ r. walk (onward r.0) r.1
+-- what the lines give, each being what the format wants after those before it, and the place behind them; or the first fault
+abbrev pub walk : {A : Type 0} → Format A → Place → Result (A × Place) SasFault
+walk (Done x) place = Ok (x, place)
+walk (Line kind onward) place = next kind place >>= λ r. walk (onward r.0) r.1
 
--- nothing is left behind the parts
-abbrev pub whole : Parts × List (List ℕ) → Result Parts SasFault
-whole (parts, []) = Ok parts
-whole (parts, line ∷ lines) = Err NotPlain
+-- only empty lines are left
+abbrev pub trailing : ℕ → List (List ℕ) → Result (Unit {0}) SasFault
+trailing n [] = Ok tt
+trailing n (line ∷ lines) = if nat_eq (length line) 0 then trailing (n + 1) lines else Err (Trailing n)
 
--- what the lines of a text give
+-- only empty lines are left behind what was given
+abbrev pub whole : {A : Type 0} → A × Place → Result A SasFault
+whole read = trailing read.1.line read.1.left >>= λ done. Ok read.0
+
+-- what lines give from the first of them on
+unfoldable pub parts_in : List (List ℕ) → Result Parts SasFault
+parts_in lines = walk task (record { left = lines; line = 1 }) >>= whole
+
+-- what a text gives, or its first fault
 unfoldable pub parts_of : List ℕ → Result Parts SasFault
-parts_of bytes = walk task (lines_of bytes) >>= whole
+parts_of bytes = if nat_le (length bytes) 268435456 then parts_in (lines_of bytes) else Err (TooLarge Bytes (length bytes))
 
 -- preconditions and effects, and behind them those of what was read
-abbrev pub changed : List Fact → List Effect → Result (List (Option Fact × Effect) × List (List ℕ)) SasFault → Result ((List Fact × List Effect) × List (List ℕ)) SasFault
+abbrev pub changed : List Fact → List Effect → Result (List (Option Fact × Effect) × Place) SasFault → Result ((List Fact × List Effect) × Place) SasFault
 changed pre effects read = read >>= λ r. Ok ((pre ++ preconditions r.0, effects ++ map (λ e. e.1) r.0), r.1)
 
--- The bytes are within the limit, each line is what the lines before it want, nothing is behind the
--- last one, and what the lines give is well formed and plain.
-pub record IsTextOf (bytes : List ℕ) (parts : Parts) : Type 0 where
-  pub within : length bytes ≤ 268435456
-  pub lines : parts_of bytes ≡ Ok parts
-  pub well_formed : IsWellFormed parts
-  pub plain : IsPlain parts
+-- the task of a text: what the text gives, with rules of defaults left out and preconditions in order; or the first fault
+unfoldable pub task_of : List ℕ → Result Parts SasFault
+task_of bytes = parts_of bytes >>= λ parts. Ok (brought parts)

@@ -1,238 +1,248 @@
 // Readers of one line each.
-ghost use Rattle.std.specs.Prelude.{◌≡◌, ◌≤◌, ◌^◌, ◌<◌, length, option_map, codes, IfOk, IfSome};
+ghost use Rattle.std.specs.Prelude.{◌≡◌, ◌≤◌, ◌+◌, ◌<◌, IfOk, length, option_map, codes};
+ghost use Rattle.std.specs.Str.{bytes_eq};
 ghost use Rattle.lama_num.specs.Gives.{Gives};
-ghost use Rattle.sas_reader.specs.Lines.{words_of};
-ghost use Rattle.sas_reader.specs.Formats.{Word, ZeroOrOne, Name, Number, Below, FactIn, EffectIn, one_number as the_number, number_within as the_number_within, number_below as the_number_below, zero_or_one as the_zero_or_one, fact_in as the_fact_in, fact_of as the_fact_of, one_fact as the_fact, old_of as the_old, unconditional as the_unconditional, one_effect as the_effect};
-ghost use Rattle.sas_reader.specs.Walks.{fault_of, first_line, next};
+ghost use Rattle.sas_reader.specs.Formats.{Begin, End, Version, ZeroOrOne, Name as AName, Count, Layer as ALayer, Range as ARange, Below};
+ghost use Rattle.sas_reader.specs.Reading.{or_fault, one_number as the_number, zero_or_one as the_zero_or_one, only_if, count_line, layer_line, range_line, value_line, at_most as the_limit, is_narrow as narrow_test};
+ghost use Rattle.sas_reader.specs.Walks.{fault_of, first_line, next_by, next};
 
 use crate::cursor::Cursor;
-use crate::faults::{SasError, SasFault};
-use crate::words::{Words, number_of};
+use crate::faults::{SasError, SasFault, Want};
+use crate::numbers::{number_or_none, one_number};
+use crate::sections::Section;
 use lama_num::Seq;
-use sas_task::{Effect, Fact};
+use sas_task::What;
 use std::alloc::Global;
 
-/// The most bytes of a name.
-const MOST_BYTES: usize = 4096;
+/// The most values of a variable, and the most layers.
+const MOST: u64 = 1_048_576;
+
+/// The most facts.
+const MOST_FACTS: u64 = 4_194_304;
 
 /// The next line, which has to be there.
-fn wanted<'a>(cursor: &mut Cursor<'a>) -> Result<&'a [u8], SasError>
+pub fn wanted<'a>(cursor: &mut Cursor<'a>) -> Result<&'a [u8], SasError>
     ensures { Gives fault_of (λ line. (line.now, cursor.new)) result (first_line cursor.old) }
 {
+    let line = cursor.line();
     match cursor.next_line() {
-        Some(line) => Ok(line),
-        None => Err(SasError::Bad(SasFault::NotPlain)),
+        Some(text) => Ok(text),
+        None => Err(SasError::Bad(SasFault::CutShort { line })),
+    }
+}
+
+pub fn at_most(what: What, most: u64, count: u64) -> Result<(), SasFault>
+    ensures { result ≡ the_limit what most count }
+{
+    if count <= most {
+        Ok(())
+    } else {
+        Err(SasFault::TooLarge { what, count })
+    }
+}
+
+fn number(line: u64, text: &[u8]) -> Result<u64, SasFault>
+    ensures { result ≡ or_fault (SasFault.BadNumber line) (the_number text.now) }
+{
+    match one_number(text) {
+        Some(n) => Ok(n),
+        None => Err(SasFault::BadNumber { line }),
     }
 }
 
 /// A line that has to be a text.
 #[tactic(auto, unfolding(crate::specs::Walks::next_by))]
-pub fn read_word(cursor: &mut Cursor, text: &[u8]) -> Result<(), SasError>
-    ensures { Gives fault_of (λ _. (tt, cursor.new)) result (next (Word text.now) cursor.old) }
+fn expected(cursor: &mut Cursor, text: &[u8], want: Want) -> Result<(), SasError>
+    ensures { Gives fault_of (λ _. (tt, cursor.new)) result (next_by (λ n line. only_if (bytes_eq line text.now) (SasFault.BadLine n want)) cursor.old) }
 {
+    let line = cursor.line();
     if wanted(cursor)? == text {
         Ok(())
     } else {
-        Err(SasError::Bad(SasFault::NotPlain))
+        Err(SasError::Bad(SasFault::BadLine { line, want }))
     }
 }
 
-fn zero_or_one(line: &[u8]) -> Option<bool>
-    ensures { result ≡ the_zero_or_one line.now }
+/// The word that begins a part.
+#[tactic(auto, unfolding(crate::specs::Walks::next_by, crate::specs::Reading::begin_line))]
+pub fn read_begin(cursor: &mut Cursor, section: Section) -> Result<(), SasError>
+    ensures { Gives fault_of (λ _. (tt, cursor.new)) result (next (Begin section) cursor.old) }
 {
-    if line == b"0".as_slice() {
+    expected(cursor, section.begin(), Want::Word)
+}
+
+/// The word that ends a part.
+#[tactic(auto, unfolding(crate::specs::Walks::next_by, crate::specs::Reading::end_line))]
+pub fn read_end(cursor: &mut Cursor, section: Section) -> Result<(), SasError>
+    ensures { Gives fault_of (λ _. (tt, cursor.new)) result (next (End section) cursor.old) }
+{
+    expected(cursor, section.end(), Want::Word)
+}
+
+/// The version, 3.
+#[tactic(auto, unfolding(crate::specs::Walks::next_by, crate::specs::Reading::version_line))]
+pub fn read_three(cursor: &mut Cursor) -> Result<(), SasError>
+    ensures { Gives fault_of (λ _. (tt, cursor.new)) result (next Version cursor.old) }
+{
+    expected(cursor, b"3", Want::Version)
+}
+
+fn zero_or_one(text: &[u8]) -> Option<bool>
+    ensures { result ≡ the_zero_or_one text.now }
+{
+    if text == b"0".as_slice() {
         Some(false)
-    } else if line == b"1".as_slice() {
+    } else if text == b"1".as_slice() {
         Some(true)
     } else {
         None
     }
 }
 
-#[tactic(auto, unfolding(crate::specs::Walks::next_by))]
+#[tactic(auto, unfolding(crate::specs::Walks::next_by, crate::specs::Reading::metric_line))]
 pub fn read_zero_or_one(cursor: &mut Cursor) -> Result<bool, SasError>
     ensures { Gives fault_of (λ b. (b, cursor.new)) result (next ZeroOrOne cursor.old) }
 {
+    let line = cursor.line();
     match zero_or_one(wanted(cursor)?) {
         Some(b) => Ok(b),
-        None => Err(SasError::Bad(SasFault::NotPlain)),
+        None => Err(SasError::Bad(SasFault::BadLine {
+            line,
+            want: Want::Metric,
+        })),
     }
 }
 
 /// A name, copied.
-#[tactic(auto, unfolding(crate::specs::Walks::next_by))]
+#[tactic(auto, unfolding(crate::specs::Walks::next_by, crate::specs::Reading::name_line))]
 pub fn read_name(alloc: Global, cursor: &mut Cursor) -> Result<Seq<u8>, SasError>
-    ensures { Gives fault_of (λ name. (name, cursor.new)) result (next Name cursor.old) }
+    ensures { Gives fault_of (λ name. (name, cursor.new)) result (next AName cursor.old) }
 {
-    let line = wanted(cursor)?;
-    if !line.is_empty() && line.len() <= MOST_BYTES {
-        Ok(Seq::from(Vec::from_slice(alloc, line)?))
-    } else {
-        Err(SasError::Bad(SasFault::NotPlain))
+    let line = cursor.line();
+    let name = wanted(cursor)?;
+    if name.is_empty() {
+        return Err(SasError::Bad(SasFault::BadLine {
+            line,
+            want: Want::Name,
+        }));
     }
+    at_most(What::Name, 4096, name.len() as u64)?;
+    Ok(Seq::from(Vec::from_slice(alloc, name)?))
 }
 
-fn one_number(line: &[u8]) -> Option<u64>
-    ensures { result ≡ the_number line.now }
+#[tactic(auto, unfolding(crate::specs::Reading::count_line))]
+fn count_in(what: What, most: u64, line: u64, text: &[u8]) -> Result<u64, SasFault>
+    ensures count { result ≡ count_line what most line text.now }
+    ensures few { IfOk result (λ n. n ≤ most) }
 {
-    let mut words = Words::new(line);
-    let word = words.next_word()?;
-    match words.next_word() {
-        None => number_of(word),
-        Some(_) => None,
-    }
+    let count = number(line, text)?;
+    at_most(what, most, count)?;
+    Ok(count)
 }
 
-fn number_within(least: u64, most: u64, line: &[u8]) -> Option<u64>
-    ensures number { result ≡ the_number_within least most line.now }
-    ensures within { IfSome result (λ n. (least ≤ n) × (n ≤ most)) }
-{
-    let n = one_number(line)?;
-    if least <= n && n <= most {
-        Some(n)
-    } else {
-        None
-    }
-}
-
-/// One number, from `least` to `most`.
+/// One number, up to a limit.
 #[tactic(auto, unfolding(crate::specs::Walks::next_by))]
-pub fn read_number(cursor: &mut Cursor, least: u64, most: u64) -> Result<u64, SasError>
-    ensures number { Gives fault_of (λ n. (n, cursor.new)) result (next (Number least most) cursor.old) }
-    ensures within { IfOk result (λ n. (least ≤ n) × (n ≤ most)) }
+pub fn read_count(cursor: &mut Cursor, what: What, most: u64) -> Result<u64, SasError>
+    ensures count { Gives fault_of (λ n. (n, cursor.new)) result (next (Count what most) cursor.old) }
+    ensures few { IfOk result (λ n. n ≤ most) }
 {
-    match number_within(least, most, wanted(cursor)?) {
-        Some(n) => Ok(n),
-        None => Err(SasError::Bad(SasFault::NotPlain)),
+    let line = cursor.line();
+    let text = wanted(cursor)?;
+    Ok(count_in(what, most, line, text)?)
+}
+
+#[tactic(auto, unfolding(crate::specs::Reading::layer_line))]
+fn layer_in(line: u64, text: &[u8]) -> Result<Option<u32>, SasFault>
+    ensures { result ≡ layer_line line text.now }
+{
+    match number_or_none(text) {
+        None => Err(SasFault::BadNumber { line }),
+        Some(None) => Ok(None),
+        Some(Some(layer)) => {
+            at_most(What::Layer, MOST, layer)?;
+            Ok(Some(layer as u32))
+        }
     }
 }
 
-fn fact_in(ranges: &[u32], var: u64, val: u64) -> Option<Fact>
-    requires { length ranges.now ≤ 1048576 }
-    ensures { result ≡ the_fact_in ranges.now var val }
-{
-    let range = if var < ranges.len() as u64 {
-        u64::from(ranges[var as usize])
-    } else {
-        0
-    };
-    if val < range {
-        Some(Fact {
-            var: var as u32,
-            val: val as u32,
-        })
-    } else {
-        None
-    }
-}
-
-fn fact_of(ranges: &[u32], var: &[u8], val: &[u8]) -> Option<Fact>
-    requires { length ranges.now ≤ 1048576 }
-    ensures { result ≡ the_fact_of ranges.now var.now val.now }
-{
-    let var = number_of(var)?;
-    let val = number_of(val)?;
-    fact_in(ranges, var, val)
-}
-
-fn one_fact(ranges: &[u32], line: &[u8]) -> Option<Fact>
-    requires { length ranges.now ≤ 1048576 }
-    ensures { result ≡ the_fact ranges.now (words_of line.now) }
-{
-    let mut words = Words::new(line);
-    let var = words.next_word()?;
-    let val = words.next_word()?;
-    match words.next_word() {
-        None => fact_of(ranges, var, val),
-        Some(_) => None,
-    }
-}
-
-/// One fact of variables that have these numbers of values.
+/// The layer of a variable that is derived, or `-1`.
 #[tactic(auto, unfolding(crate::specs::Walks::next_by))]
-pub fn read_fact(cursor: &mut Cursor, ranges: &[u32]) -> Result<Fact, SasError>
-    requires { length ranges.now ≤ 1048576 }
-    ensures { Gives fault_of (λ fact. (fact, cursor.new)) result (next (FactIn ranges.now) cursor.old) }
+pub fn read_layer(cursor: &mut Cursor) -> Result<Option<u32>, SasError>
+    ensures { Gives fault_of (λ layer. (layer, cursor.new)) result (next ALayer cursor.old) }
 {
-    match one_fact(ranges, wanted(cursor)?) {
-        Some(fact) => Ok(fact),
-        None => Err(SasError::Bad(SasFault::NotPlain)),
-    }
+    let line = cursor.line();
+    let text = wanted(cursor)?;
+    Ok(layer_in(line, text)?)
 }
 
-fn old_of(ranges: &[u32], var: &[u8], old: &[u8]) -> Option<Option<Fact>>
-    requires { length ranges.now ≤ 1048576 }
-    ensures { result ≡ the_old ranges.now var.now old.now }
+/// A derived variable has two values.
+fn is_narrow(layer: Option<u32>, range: u64) -> bool
+    ensures { result ≡ narrow_test layer range }
 {
-    if old == b"-1".as_slice() {
-        Some(None)
+    layer.is_none() || range == 2
+}
+
+#[tactic(auto, unfolding(crate::specs::Reading::range_line))]
+fn range_in(
+    var: u32,
+    layer: Option<u32>,
+    facts: u64,
+    line: u64,
+    text: &[u8],
+) -> Result<u64, SasFault>
+    requires { facts ≤ 4194304 }
+    ensures range { result ≡ range_line var layer facts line text.now }
+    ensures few { IfOk result (λ range. (range ≤ 1048576) × (facts + range ≤ 4194304)) }
+{
+    let range = number(line, text)?;
+    if range == 0 {
+        return Err(SasFault::BadNumber { line });
+    }
+    at_most(What::Range, MOST, range)?;
+    at_most(What::Facts, MOST_FACTS, facts + range)?;
+    if is_narrow(layer, range) {
+        Ok(range)
     } else {
-        Some(Some(fact_of(ranges, var, old)?))
+        Err(SasFault::WideDerived { var })
     }
 }
 
-/// An effect that an operator gives without conditions, and what it needs of its variable.
-#[derive(Drop)]
-pub struct Change {
-    pub pre: Option<Fact>,
-    pub effect: Effect,
-}
-
-fn unconditional(
-    alloc: Global,
-    ranges: &[u32],
-    var: &[u8],
-    old: &[u8],
-    new: &[u8],
-) -> Option<Change>
-    requires { length ranges.now ≤ 1048576 }
-    ensures { option_map (λ c. (c.pre, c.effect)) result ≡ the_unconditional ranges.now var.now old.now new.now }
-{
-    let pre = old_of(ranges, var, old)?;
-    let fact = fact_of(ranges, var, new)?;
-    Some(Change {
-        pre,
-        effect: Effect {
-            conds: Seq::new(alloc),
-            fact,
-        },
-    })
-}
-
-fn one_effect(alloc: Global, ranges: &[u32], line: &[u8]) -> Option<Change>
-    requires { length ranges.now ≤ 1048576 }
-    ensures { option_map (λ c. (c.pre, c.effect)) result ≡ the_effect ranges.now (words_of line.now) }
-{
-    let mut words = Words::new(line);
-    let count = words.next_word()?;
-    let var = words.next_word()?;
-    let old = words.next_word()?;
-    let new = words.next_word()?;
-    if words.next_word().is_some() || number_of(count)? != 0 {
-        return None;
-    }
-    unconditional(alloc, ranges, var, old, new)
-}
-
-/// One effect without conditions.
+/// The number of values of the variable with this number and this layer, which comes behind so many
+/// facts.
 #[tactic(auto, unfolding(crate::specs::Walks::next_by))]
-pub fn read_effect(alloc: Global, cursor: &mut Cursor, ranges: &[u32]) -> Result<Change, SasError>
-    requires { length ranges.now ≤ 1048576 }
-    ensures { Gives fault_of (λ c. ((c.pre, c.effect), cursor.new)) result (next (EffectIn ranges.now) cursor.old) }
+pub fn read_range(
+    cursor: &mut Cursor,
+    var: u32,
+    layer: Option<u32>,
+    facts: u64,
+) -> Result<u64, SasError>
+    requires { facts ≤ 4194304 }
+    ensures range { Gives fault_of (λ range. (range, cursor.new)) result (next (ARange var layer facts) cursor.old) }
+    ensures few { IfOk result (λ range. (range ≤ 1048576) × (facts + range ≤ 4194304)) }
 {
-    match one_effect(alloc, ranges, wanted(cursor)?) {
-        Some(change) => Ok(change),
-        None => Err(SasError::Bad(SasFault::NotPlain)),
+    let line = cursor.line();
+    let text = wanted(cursor)?;
+    Ok(range_in(var, layer, facts, line, text)?)
+}
+
+#[tactic(auto, unfolding(crate::specs::Reading::value_line))]
+fn value_in(range: u32, line: u64, text: &[u8]) -> Result<u32, SasFault>
+    ensures { result ≡ value_line range line text.now }
+{
+    let value = number(line, text)?;
+    if value < u64::from(range) {
+        Ok(value as u32)
+    } else {
+        Err(SasFault::BadFact { line })
     }
 }
 
-/// The value of a variable that has this number of values.
+/// A value below a range.
 #[tactic(auto, unfolding(crate::specs::Walks::next_by))]
 pub fn read_value(cursor: &mut Cursor, range: u32) -> Result<u32, SasError>
     ensures { Gives fault_of (λ value. (value, cursor.new)) result (next (Below range) cursor.old) }
 {
-    match one_number(wanted(cursor)?) {
-        Some(n) if n < u64::from(range) => Ok(n as u32),
-        _ => Err(SasError::Bad(SasFault::NotPlain)),
-    }
+    let line = cursor.line();
+    let text = wanted(cursor)?;
+    Ok(value_in(range, line, text)?)
 }

@@ -1,23 +1,28 @@
 // The reader of whole texts.
-ghost use Rattle.std.specs.Prelude.{◌≡◌, ◌≤◌, IfOk, length};
+ghost use Rattle.std.specs.Prelude.{◌≡◌, ◌≤◌, IfOk, None, length};
 ghost use Rattle.lama_num.specs.Gives.{Gives};
-ghost use Rattle.sas_reader.specs.TaskText.{opening as the_opening, rest as the_rest, task as the_task, ranges_of};
-ghost use Rattle.sas_reader.specs.Walks.{fault_of, walk, parts_of, IsTextOf};
-ghost use Rattle.sas_task.specs.declared.contents.Parts.{Parts as TheParts};
+ghost use Rattle.sas_reader.specs.FirstFault.{IsTextOf, IsFirstFaultOf};
+ghost use Rattle.sas_reader.specs.Lines.{lines_of};
+ghost use Rattle.sas_reader.specs.Shapes.{shapes_of};
+ghost use Rattle.sas_reader.specs.TaskText.{opening as the_opening, ends as the_ends, rest as the_rest, task as the_task};
+ghost use Rattle.sas_reader.specs.Walks.{fault_of, walk, trailing, parts_in, parts_of, task_of};
+ghost use Rattle.sas_reader.specs.declared.faults.SasFault.{SasFault as TheFault};
+ghost use Rattle.sas_task.specs.Refusals.{brought, refusal_of};
 
+use crate::conditions::{read_goal, read_groups};
 use crate::cursor::Cursor;
 use crate::faults::{SasError, SasFault};
-use crate::fields::read_number;
-use crate::operators::{read_goal, read_operators};
+use crate::operators::{read_operators, read_rules};
+use crate::shapes::Shape;
 use crate::variables::{Variables, read_metric, read_state, read_variables, read_version};
 use lama_num::Seq;
-use sas_task::{Parts, Task, check};
+use sas_task::{Fact, Parts, Task, What, check};
 use std::alloc::Global;
 
 /// The most bytes of a text.
 const MOST_BYTES: usize = 268_435_456;
 
-/// What stands before the initial state.
+/// What stands before the mutex groups.
 #[derive(Drop)]
 struct Opening {
     metric: bool,
@@ -27,34 +32,50 @@ struct Opening {
 #[tactic(auto, using(crate::proofs::Walking::walk_bind), unfolding(crate::specs::TaskText::opening))]
 fn read_opening(alloc: Global, cursor: &mut Cursor) -> Result<Opening, SasError>
     ensures opening { Gives fault_of (λ o. ((o.metric, o.variables.all.items), cursor.new)) result (walk the_opening cursor.old) }
-    ensures ranges { IfOk result (λ o. o.variables.ranges.items ≡ ranges_of o.variables.all.items) }
-    ensures few { IfOk result (λ o. length o.variables.ranges.items ≤ 1048576) }
+    ensures shapes { IfOk result (λ o. o.variables.shapes.items ≡ shapes_of o.variables.all.items) }
+    ensures few { IfOk result (λ o. length o.variables.shapes.items ≤ 1048576) }
 {
     read_version(cursor)?;
     let metric = read_metric(cursor)?;
     let variables = read_variables(alloc, cursor)?;
-    read_number(cursor, 0, 0)?;
     Ok(Opening { metric, variables })
+}
+
+/// Where a plan begins, and where it leads.
+#[derive(Drop)]
+struct Ends {
+    init: Seq<u32>,
+    goal: Seq<Fact>,
+}
+
+#[tactic(auto, using(crate::proofs::Walking::walk_bind), unfolding(crate::specs::TaskText::ends))]
+fn read_ends(alloc: Global, cursor: &mut Cursor, shapes: &[Shape]) -> Result<Ends, SasError>
+    requires { length shapes.now ≤ 1048576 }
+    ensures { Gives fault_of (λ e. ((e.init, e.goal), cursor.new)) result (walk (the_ends shapes.now) cursor.old) }
+{
+    let init = read_state(alloc, cursor, shapes)?;
+    let goal = read_goal(alloc, cursor, shapes)?;
+    Ok(Ends { init, goal })
 }
 
 #[tactic(auto, using(crate::proofs::Walking::walk_bind), unfolding(crate::specs::TaskText::rest))]
 fn read_rest(alloc: Global, cursor: &mut Cursor, opening: Opening) -> Result<Parts, SasError>
-    requires { length opening.variables.ranges.items ≤ 1048576 }
-    ensures { Gives fault_of (λ parts. (parts, cursor.new)) result (walk (the_rest opening.metric opening.variables.all.items opening.variables.ranges.items) cursor.old) }
+    requires { length opening.variables.shapes.items ≤ 1048576 }
+    ensures { Gives fault_of (λ parts. (parts, cursor.new)) result (walk (the_rest opening.metric opening.variables.all.items opening.variables.shapes.items) cursor.old) }
 {
     let Opening { metric, variables } = opening;
-    let init = read_state(alloc, cursor, &variables.ranges)?;
-    let goal = read_goal(alloc, cursor, &variables.ranges)?;
-    let operators = read_operators(alloc, cursor, metric, &variables.ranges)?;
-    read_number(cursor, 0, 0)?;
+    let groups = read_groups(alloc, cursor, &variables.shapes)?;
+    let ends = read_ends(alloc, cursor, &variables.shapes)?;
+    let operators = read_operators(alloc, cursor, metric, &variables.shapes)?;
+    let rules = read_rules(alloc, cursor, &variables.shapes, &ends.init)?;
     Ok(Parts {
         metric,
         variables: Seq::from(variables.all),
-        groups: Seq::new(alloc),
-        init,
-        goal,
+        groups,
+        init: ends.init,
+        goal: ends.goal,
         operators,
-        rules: Seq::new(alloc),
+        rules,
     })
 }
 
@@ -66,33 +87,78 @@ fn read_task(alloc: Global, cursor: &mut Cursor) -> Result<Parts, SasError>
     read_rest(alloc, cursor, opening)
 }
 
+/// Only empty lines are left.
+fn read_trailing(cursor: &mut Cursor) -> Result<(), SasError>
+    ensures { Gives fault_of (λ _. tt) result (trailing cursor.old.line cursor.old.left) }
+{
+    loop {
+        let line = cursor.line();
+        match cursor.next_line() {
+            None => return Ok(()),
+            Some(text) => {
+                if !text.is_empty() {
+                    return Err(SasError::Bad(SasFault::Trailing { line }));
+                }
+            }
+        }
+    }
+}
+
+#[tactic(auto, unfolding(crate::specs::Walks::parts_in))]
+fn read_lines(alloc: Global, bytes: &[u8]) -> Result<Parts, SasError>
+    ensures { Gives fault_of (λ parts. parts) result (parts_in (lines_of bytes.now)) }
+{
+    let mut cursor = Cursor::new(bytes);
+    let parts = read_task(alloc, &mut cursor)?;
+    read_trailing(&mut cursor)?;
+    Ok(parts)
+}
+
 #[tactic(auto, unfolding(crate::specs::Walks::parts_of))]
 fn read_parts(alloc: Global, bytes: &[u8]) -> Result<Parts, SasError>
     ensures { Gives fault_of (λ parts. parts) result (parts_of bytes.now) }
 {
-    let mut cursor = Cursor::new(bytes);
-    let parts = read_task(alloc, &mut cursor)?;
-    match cursor.next_line() {
-        None => Ok(parts),
-        Some(_) => Err(SasError::Bad(SasFault::NotPlain)),
+    if bytes.len() > MOST_BYTES {
+        return Err(SasError::Bad(SasFault::TooLarge {
+            what: What::Bytes,
+            count: bytes.len() as u64,
+        }));
+    }
+    read_lines(alloc, bytes)
+}
+
+/// The task of parts that are accepted.
+fn accepted(parts: Parts) -> Task
+    requires { refusal_of parts ≡ None }
+    ensures { result ≡ brought parts }
+{
+    match check(parts) {
+        Ok(task) => task,
+        Err(_) => unreachable!(),
     }
 }
 
-/// The task that the bytes are the text of.
-///
-/// The format is that of the translator of Fast Downward, version 3 of its output, without derived
-/// variables, mutex groups, conditional effects and rules, and without leniency about blanks. It is
-/// read in one pass over the bytes.
-pub fn read(alloc: Global, bytes: &[u8]) -> Result<Task, SasError>
-    ensures text { IfOk result (λ task. IsTextOf bytes.now task) }
-    ensures refused { result ≡ Err (SasError.Bad SasFault.NotPlain) → (parts : TheParts) → IsTextOf bytes.now parts → ⊥ }
+#[tactic(auto, unfolding(crate::specs::Walks::task_of))]
+fn read_accepted(alloc: Global, bytes: &[u8]) -> Result<Task, SasError>
+    ensures { Gives fault_of (λ task. task) result (task_of bytes.now) }
 {
-    if bytes.len() > MOST_BYTES {
-        return Err(SasError::Bad(SasFault::NotPlain));
-    }
     let parts = read_parts(alloc, bytes)?;
-    match check(parts) {
-        Ok(task) => Ok(task),
-        Err(_) => Err(SasError::Bad(SasFault::NotPlain)),
-    }
+    Ok(accepted(parts))
+}
+
+/// The task that the bytes are the text of, or the first fault.
+///
+/// The format is that of the translator of Fast Downward, version 3 of its output. Blanks and carriage
+/// returns at both ends of a line, several blanks between numbers, a wanting last line feed and empty
+/// lines at the end are no faults. The text is read in one pass, and takes no memory that only its
+/// counts promise.
+pub fn read(alloc: Global, bytes: &[u8]) -> Result<Task, SasError>
+    // The task of the text, or its first fault.
+    ensures exact { Gives fault_of (λ task. task) result (task_of bytes.now) }
+    // Each line is what the lines before it want.
+    ensures text { IfOk result (λ task. IsTextOf bytes.now task) }
+    // The fault is that of the first line that isn't.
+    ensures first { (fault : TheFault) → result ≡ Err (SasError.Bad fault) → IsFirstFaultOf bytes.now fault }
+{
+    read_accepted(alloc, bytes)
 }

@@ -1,27 +1,34 @@
-// Readers of the parts up to the initial state.
-ghost use Rattle.std.specs.Prelude.{◌≡◌, ◌≤◌, IfOk, length, map};
+// Readers of the parts up to the variables, and of the initial state.
+ghost use Rattle.std.specs.Prelude.{◌≡◌, ◌≤◌, ◌+◌, IfOk, length, map};
 ghost use Rattle.lama_num.specs.Gives.{Gives};
 ghost use Rattle.sas_reader.specs.Formats.{Name, line, times, each};
-ghost use Rattle.sas_reader.specs.TaskText.{version as the_version, metric as the_metric, variable as the_variable, variables as the_variables, state as the_state, initial, ranges_of};
+ghost use Rattle.sas_reader.specs.Shapes.{shapes_of};
+ghost use Rattle.sas_reader.specs.TaskText.{version as the_version, metric as the_metric, variable as the_variable, variables_from, variables as the_variables, state as the_state, initial};
 ghost use Rattle.sas_reader.specs.Walks.{fault_of, walk};
 
 use crate::cursor::Cursor;
 use crate::faults::SasError;
-use crate::fields::{read_name, read_number, read_value, read_word, read_zero_or_one};
+use crate::fields::{
+    read_begin, read_count, read_end, read_layer, read_name, read_range, read_three, read_value,
+    read_zero_or_one,
+};
+use crate::sections::Section;
+use crate::shapes::Shape;
 use lama_num::Seq;
-use sas_task::Variable;
+use sas_task::{Variable, What};
 use std::alloc::Global;
 
-/// The most variables, and the most values of one variable.
+/// The most variables.
 const MOST: u64 = 1_048_576;
 
 #[tactic(auto, unfolding(crate::specs::TaskText::version))]
 pub fn read_version(cursor: &mut Cursor) -> Result<(), SasError>
     ensures { Gives fault_of (λ _. (tt, cursor.new)) result (walk the_version cursor.old) }
 {
-    read_word(cursor, b"begin_version")?;
-    read_word(cursor, b"3")?;
-    read_word(cursor, b"end_version")
+    read_begin(cursor, Section::Version)?;
+    read_three(cursor)?;
+    read_end(cursor, Section::Version)?;
+    Ok(())
 }
 
 /// Whether there is a metric.
@@ -29,13 +36,13 @@ pub fn read_version(cursor: &mut Cursor) -> Result<(), SasError>
 pub fn read_metric(cursor: &mut Cursor) -> Result<bool, SasError>
     ensures { Gives fault_of (λ m. (m, cursor.new)) result (walk the_metric cursor.old) }
 {
-    read_word(cursor, b"begin_metric")?;
+    read_begin(cursor, Section::Metric)?;
     let metric = read_zero_or_one(cursor)?;
-    read_word(cursor, b"end_metric")?;
+    read_end(cursor, Section::Metric)?;
     Ok(metric)
 }
 
-#[tactic(auto, using(crate::proofs::Walking::loop_more, crate::proofs::Walking::loop_none, crate::proofs::Walking::loop_fail))]
+#[tactic(auto, using(crate::proofs::Walking::loop_more, crate::proofs::Walking::loop_none))]
 fn read_names(alloc: Global, cursor: &mut Cursor, count: u64) -> Result<Vec<Seq<u8>>, SasError>
     ensures names { Gives fault_of (λ names. (names.items, cursor.new)) result (walk (times count (line Name)) cursor.old) }
     ensures so_many { IfOk result (λ names. length names.items ≡ count) }
@@ -50,72 +57,86 @@ fn read_names(alloc: Global, cursor: &mut Cursor, count: u64) -> Result<Vec<Seq<
     Ok(names)
 }
 
+/// The variable with this number, behind so many facts.
 #[tactic(auto, using(crate::proofs::Walking::walk_bind), unfolding(crate::specs::TaskText::variable))]
-fn read_variable(alloc: Global, cursor: &mut Cursor) -> Result<Variable, SasError>
-    ensures variable { Gives fault_of (λ v. (v, cursor.new)) result (walk the_variable cursor.old) }
-    ensures few { IfOk result (λ v. length v.values ≤ 1048576) }
+fn read_variable(
+    alloc: Global,
+    cursor: &mut Cursor,
+    var: u32,
+    before: u64,
+) -> Result<Variable, SasError>
+    requires { before ≤ 4194304 }
+    ensures variable { Gives fault_of (λ v. (v, cursor.new)) result (walk (the_variable var before) cursor.old) }
+    ensures few { IfOk result (λ v. (length v.values ≤ 1048576) × (before + length v.values ≤ 4194304)) }
 {
-    read_word(cursor, b"begin_variable")?;
+    read_begin(cursor, Section::Variable)?;
     let name = read_name(alloc, cursor)?;
-    read_word(cursor, b"-1")?;
-    let range = read_number(cursor, 1, MOST)?;
+    let layer = read_layer(cursor)?;
+    let range = read_range(cursor, var, layer, before)?;
     let values = read_names(alloc, cursor, range)?;
-    read_word(cursor, b"end_variable")?;
+    read_end(cursor, Section::Variable)?;
     Ok(Variable {
         name,
-        layer: None,
+        layer,
         values: Seq::from(values),
     })
 }
 
-/// Variables, and the numbers of values that they have.
+/// Variables, and what facts, effects and rules must know of them.
 #[derive(Drop)]
 pub struct Variables {
     pub all: Vec<Variable>,
-    pub ranges: Vec<u32>,
+    pub shapes: Vec<Shape>,
 }
 
-#[tactic(auto, using(crate::proofs::Walking::loop_more, crate::proofs::Walking::loop_none, crate::proofs::Walking::loop_fail))]
+#[tactic(auto, using(crate::proofs::Parts::variables_more, crate::proofs::Parts::variables_none, crate::proofs::Parts::variables_fail))]
 fn read_so_many_variables(
     alloc: Global,
     cursor: &mut Cursor,
     count: u64,
 ) -> Result<Variables, SasError>
-    ensures variables { Gives fault_of (λ v. (v.all.items, cursor.new)) result (walk (times count the_variable) cursor.old) }
-    ensures ranges { IfOk result (λ v. v.ranges.items ≡ ranges_of v.all.items) }
+    requires { count ≤ 1048576 }
+    ensures variables { Gives fault_of (λ v. (v.all.items, cursor.new)) result (walk (variables_from count 0 0) cursor.old) }
+    ensures shapes { IfOk result (λ v. v.shapes.items ≡ shapes_of v.all.items) }
     ensures so_many { IfOk result (λ v. length v.all.items ≡ count) }
 {
     let mut all = Vec::new(alloc);
-    let mut ranges = Vec::new(alloc);
-    for _i in 0..count {
-        match read_variable(alloc, cursor) {
+    let mut shapes = Vec::new(alloc);
+    let mut facts: u64 = 0;
+    for i in 0..count {
+        match read_variable(alloc, cursor, i as u32, facts) {
             Ok(variable) => {
-                ranges.push(variable.values.len() as u32)?;
+                let range = variable.values.len();
+                facts += range as u64;
+                shapes.push(Shape {
+                    range: range as u32,
+                    layer: variable.layer,
+                })?;
                 all.push(variable)?;
             }
             Err(e) => return Err(e),
         }
     }
-    Ok(Variables { all, ranges })
+    Ok(Variables { all, shapes })
 }
 
 #[tactic(auto, unfolding(crate::specs::TaskText::variables))]
 pub fn read_variables(alloc: Global, cursor: &mut Cursor) -> Result<Variables, SasError>
     ensures variables { Gives fault_of (λ v. (v.all.items, cursor.new)) result (walk the_variables cursor.old) }
-    ensures ranges { IfOk result (λ v. v.ranges.items ≡ ranges_of v.all.items) }
-    ensures few { IfOk result (λ v. length v.ranges.items ≤ 1048576) }
+    ensures shapes { IfOk result (λ v. v.shapes.items ≡ shapes_of v.all.items) }
+    ensures few { IfOk result (λ v. length v.shapes.items ≤ 1048576) }
 {
-    let count = read_number(cursor, 0, MOST)?;
+    let count = read_count(cursor, What::Variables, MOST)?;
     read_so_many_variables(alloc, cursor, count)
 }
 
-#[tactic(auto, using(crate::proofs::Walking::row_more, crate::proofs::Walking::row_none, crate::proofs::Walking::row_fail))]
-fn read_values(alloc: Global, cursor: &mut Cursor, ranges: &[u32]) -> Result<Vec<u32>, SasError>
-    ensures { Gives fault_of (λ values. (values.items, cursor.new)) result (walk (each initial ranges.now) cursor.old) }
+#[tactic(auto, using(crate::proofs::Walking::row_none))]
+fn read_values(alloc: Global, cursor: &mut Cursor, shapes: &[Shape]) -> Result<Vec<u32>, SasError>
+    ensures { Gives fault_of (λ values. (values.items, cursor.new)) result (walk (each initial shapes.now) cursor.old) }
 {
     let mut values = Vec::new(alloc);
-    for range in ranges {
-        match read_value(cursor, *range) {
+    for shape in shapes {
+        match read_value(cursor, shape.range) {
             Ok(value) => values.push(value)?,
             Err(e) => return Err(e),
         }
@@ -123,13 +144,17 @@ fn read_values(alloc: Global, cursor: &mut Cursor, ranges: &[u32]) -> Result<Vec
     Ok(values)
 }
 
-/// The initial values of variables that have these numbers of values.
+/// The initial values.
 #[tactic(auto, using(crate::proofs::Walking::walk_bind), unfolding(crate::specs::TaskText::state))]
-pub fn read_state(alloc: Global, cursor: &mut Cursor, ranges: &[u32]) -> Result<Seq<u32>, SasError>
-    ensures { Gives fault_of (λ values. (values, cursor.new)) result (walk (the_state ranges.now) cursor.old) }
+pub fn read_state(
+    alloc: Global,
+    cursor: &mut Cursor,
+    shapes: &[Shape],
+) -> Result<Seq<u32>, SasError>
+    ensures { Gives fault_of (λ values. (values, cursor.new)) result (walk (the_state shapes.now) cursor.old) }
 {
-    read_word(cursor, b"begin_state")?;
-    let values = read_values(alloc, cursor, ranges)?;
-    read_word(cursor, b"end_state")?;
+    read_begin(cursor, Section::State)?;
+    let values = read_values(alloc, cursor, shapes)?;
+    read_end(cursor, Section::State)?;
     Ok(Seq::from(values))
 }

@@ -7,12 +7,14 @@ use Rattle.std.proofs.lemmas.List.{get_or-map}
 use Rattle.std.proofs.lemmas.List.FromFn.{get_or-enumerate_from}
 use Rattle.std.proofs.lemmas.List.Sums.{sum_by-append}
 use Rattle.lama_num.specs.Lists.{both, list_all_get}
+use Rattle.sas_task.specs.Order.{IsInOrder}
+use Rattle.sas_task.specs.declared.contents.Fact.{Fact}
 use Rattle.sas_task.specs.declared.contents.Variable.{Variable}
 use Rattle.sas_task.specs.declared.contents.Effect.{Effect}
 use Rattle.sas_task.specs.declared.contents.Operator.{Operator}
 use Rattle.sas_task.specs.declared.contents.Rule.{Rule}
 use Rattle.sas_task.specs.declared.contents.Parts.{Parts}
-use Rattle.sas_task.specs.WellFormed.{IsWellFormed, range_of, layer_of, is_derived, is_fact, is_effect, is_operator, is_rule, are_facts, is_few, is_short, has_few_conditions}
+use Rattle.sas_task.specs.WellFormed.{IsWellFormed, range_of, layer_of, is_derived, is_fact, is_effect, is_operator, is_rule, is_variable, is_layered, is_default, is_layered_below, is_layered_rule, are_facts, is_few, is_short, has_few_conditions}
 use Rattle.sas_task.specs.States.{IsState, all_hold, fires, given, last_or, written, is_layer, rules_of, rounds_of, size_of, settled_below, default_or, reset, top_of, settled, step}
 use Rattle.sas_task.specs.Runs.{start_of, end_of, cost_at, cost_of}
 
@@ -316,3 +318,116 @@ cost_at-small parts op formed =
       | None ↦ λ at. rw at (omega arith)
       | Some operator ↦ λ at. rw at (operator-at parts op operator formed at).cost
     ] refl
+
+-- what the tests of well-formed parts tell of one member
+
+le-from_test : (n most : ℕ) → nat_le n most ≡ true → n ≤ most
+le-from_test n most is = grind (arith, nat_tests, is)
+
+-- a list of facts that passed its test
+pub facts-test : (variables : List Variable) (facts : List Fact) → are_facts variables facts ≡ true → (length facts ≤ 1048576) × (list_all (is_fact variables) facts ≡ true)
+facts-test variables facts all =
+    let parts = both (is_few facts) (list_all (is_fact variables) facts) all in
+    (le-from_test (length facts) 1048576 parts.0, parts.1)
+
+pub few-variables : (parts : Parts) → IsWellFormed parts → length parts.variables ≤ 1048576
+few-variables parts formed = le-from_test (length parts.variables) 1048576 formed.few_variables
+
+pub goal-facts : (parts : Parts) → IsWellFormed parts → list_all (is_fact parts.variables) parts.goal ≡ true
+goal-facts parts formed = (facts-test parts.variables parts.goal formed.goal).1
+
+pub group-facts : (parts : Parts) (place : ℕ) (group : List Fact) → IsWellFormed parts → slice_get parts.groups place ≡ Some group → list_all (is_fact parts.variables) group ≡ true
+group-facts parts place group formed at = (facts-test parts.variables group (list_all_get (are_facts parts.variables) parts.groups place group formed.groups at)).1
+
+-- A variable has a value, and not too many. A derived one has two, and a layer within the limit.
+pub record IsVariable (variable : Variable) : Type 0 where
+  pub some : 0 < length variable.values
+  pub few : length variable.values ≤ 1048576
+  pub two : (layer : ℕ) → variable.layer ≡ Some layer → (layer ≤ 1048576) × (length variable.values ≡ 2)
+
+pub variable-at : (parts : Parts) (var : ℕ) (variable : Variable) → IsWellFormed parts → slice_get parts.variables var ≡ Some variable → IsVariable variable
+variable-at parts var variable formed at =
+    let short = list_all is_short variable.values in
+    let layered = is_layered variable.layer (length variable.values) in
+    let some = nat_lt 0 (length variable.values) in
+    let all = list_all_get is_variable parts.variables var variable formed.variables at in
+    let a = both (is_short variable.name) (layered && (some && (is_few variable.values && short))) all in
+    let b = both layered (some && (is_few variable.values && short)) a.1 in
+    let c = both some (is_few variable.values && short) b.1 in
+    let d = both (is_few variable.values) short c.1 in
+    let more : nat_lt 0 (length variable.values) ≡ true = c.0 in
+    record {
+      some = grind (arith, nat_tests, more);
+      few = le-from_test (length variable.values) 1048576 d.0;
+      two = λ layer is. two_values layer (length variable.values) (subst (λ o. is_layered o (length variable.values) ≡ true) is b.0);
+    }
+  where
+    two_values : (layer range : ℕ) → is_layered (Some layer) range ≡ true → (layer ≤ 1048576) × (range ≡ 2)
+    two_values layer range all =
+        let parts = both (nat_le layer 1048576) (nat_eq range 2) all in
+        let low : nat_le layer 1048576 ≡ true = parts.0 in
+        let two : nat_eq range 2 ≡ true = parts.1 in
+        (grind (arith, nat_tests, low), grind (arith, nat_tests, two))
+
+-- the initial value of a variable is a fact; so is the default of a derived one
+pub initial-fact : (parts : Parts) (var : ℕ) → IsWellFormed parts → var < length parts.variables → is_fact parts.variables (record { var = var; val = slice_index parts.init var }) ≡ true
+initial-fact parts var formed lt = lt-test (slice_index parts.init var) (range_of parts.variables var) ((init-state parts formed).in_range var lt)
+  where
+    lt-test : (n most : ℕ) → n < most → nat_lt n most ≡ true
+    lt-test n most lt = grind (arith, nat_tests, lt)
+
+-- an effect's facts are in range, and it changes no derived variable
+pub record IsEffect (variables : List Variable) (effect : Effect) : Type 0 where
+  pub conds : list_all (is_fact variables) effect.conds ≡ true
+  pub fact : is_fact variables effect.fact ≡ true
+  pub stays : is_derived variables effect.fact.var ≡ false
+
+pub effect-tests : (variables : List Variable) (effect : Effect) → is_effect variables effect ≡ true → IsEffect variables effect
+effect-tests variables effect all =
+    let a = both (are_facts variables effect.conds) (is_fact variables effect.fact && not (is_derived variables effect.fact.var)) all in
+    let b = both (is_fact variables effect.fact) (not (is_derived variables effect.fact.var)) a.1 in
+    record { conds = (facts-test variables effect.conds a.0).1; fact = b.0; stays = unnegated (is_derived variables effect.fact.var) b.1 }
+  where
+    unnegated : (b : Bool) → not b ≡ true → b ≡ false
+    unnegated true e = let k : false ≡ true = e in cc
+    unnegated false e = refl
+
+pub effect-at : (parts : Parts) (op place : ℕ) (operator : Operator) (effect : Effect) → IsWellFormed parts → slice_get parts.operators op ≡ Some operator → slice_get operator.effects place ≡ Some effect → IsEffect parts.variables effect
+effect-at parts op place operator effect formed at there =
+    effect-tests parts.variables effect (list_all_get (is_effect parts.variables) operator.effects place effect (operator-at parts op operator formed at).effects there)
+
+-- the preconditions of an operator: none stands twice, and they stand in order
+pub order-at : (parts : Parts) (op : ℕ) (operator : Operator) → IsWellFormed parts → slice_get parts.operators op ≡ Some operator → IsInOrder operator
+order-at parts op operator formed at = formed.order op operator at
+
+-- A rule's facts are in range. Its head is of a derived variable and isn't the default, and its conditions lie in the head's layer or below.
+pub record IsRule (parts : Parts) (rule : Rule) : Type 0 where
+  pub conds : list_all (is_fact parts.variables) rule.conds ≡ true
+  pub head : is_fact parts.variables rule.head ≡ true
+  pub gives : is_default parts.init rule.head ≡ false
+  pub layer : ℕ
+  pub derived : layer_of parts.variables rule.head.var ≡ Some layer
+  pub below : list_all (is_layered_below parts.variables parts.init layer) rule.conds ≡ true
+
+pub rule-at : (parts : Parts) (place : ℕ) (rule : Rule) → IsWellFormed parts → slice_get parts.rules place ≡ Some rule → IsRule parts rule
+rule-at parts place rule formed at =
+    let layered = is_layered_rule parts.variables parts.init rule in
+    let all = list_all_get (is_rule parts.variables parts.init) parts.rules place rule formed.rules at in
+    let a = both (are_facts parts.variables rule.conds) (is_fact parts.variables rule.head && (not (is_default parts.init rule.head) && layered)) all in
+    let b = both (is_fact parts.variables rule.head) (not (is_default parts.init rule.head) && layered) a.1 in
+    let c = both (not (is_default parts.init rule.head)) layered b.1 in
+    elim (layer_of parts.variables rule.head.var) as (λ o. layer_of parts.variables rule.head.var ≡ o → IsRule parts rule) [
+      | None ↦ λ is. let k : false ≡ true = rw is at c.1 in cc
+      | Some layer ↦ λ is. record {
+        conds = (facts-test parts.variables rule.conds a.0).1;
+        head = b.0;
+        gives = unnegated (is_default parts.init rule.head) c.0;
+        layer = layer;
+        derived = is;
+        below = rw is at c.1;
+      }
+    ] refl
+  where
+    unnegated : (b : Bool) → not b ≡ true → b ≡ false
+    unnegated true e = let k : false ≡ true = e in cc
+    unnegated false e = refl

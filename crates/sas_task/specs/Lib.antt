@@ -1,4 +1,9 @@
+pub mod Acceptance
+pub mod Costs
+pub mod Facts
 pub mod Laws
+pub mod Order
+pub mod Refusals
 pub mod Runs
 pub mod States
 pub mod WellFormed

@@ -1,6 +1,7 @@
 -- When the parts of a task are well formed.
 use Rattle.std.specs.Prelude.{◌≡◌, ℕ, ◌+◌, ◌≤◌, List, length, Bool, true, false, nat_lt, nat_le, nat_eq, ◌&&◌, not, if◌then◌else◌, slice_index, slice_get, sum_by, IsTrue, Option, Some, None, is_some}
 use Rattle.std.specs.List.{list_all, zip}
+use Rattle.sas_task.specs.Order.{has_few_prevail, IsInOrder}
 use Rattle.sas_task.specs.declared.contents.Fact.{Fact}
 use Rattle.sas_task.specs.declared.contents.Variable.{Variable}
 use Rattle.sas_task.specs.declared.contents.Effect.{Effect}
@@ -54,7 +55,7 @@ are_facts variables facts = is_few facts && list_all (is_fact variables) facts
 abbrev pub is_effect : List Variable → Effect → Bool
 is_effect variables effect = are_facts variables effect.conds && (is_fact variables effect.fact && not (is_derived variables effect.fact.var))
 
--- Each effect may stand for one of the preconditions; of the others there are few.
+-- Each effect may stand for one of the preconditions; of the others, the prevail conditions, there are few.
 abbrev pub has_few_conditions : Operator → Bool
 has_few_conditions operator = nat_le (length operator.pre) (1048576 + length operator.effects)
 
@@ -105,17 +106,9 @@ pub record IsWellFormed (parts : Parts) : Type 0 where
   pub goal : IsTrue (are_facts parts.variables parts.goal)
   pub few_operators : length parts.operators ≤ 4194304
   pub operators : IsTrue (list_all (is_operator parts.variables) parts.operators)
+  pub conditions : IsTrue (list_all has_few_prevail parts.operators)
+  pub order : (op : ℕ) (operator : Operator) → slice_get parts.operators op ≡ Some operator → IsInOrder operator
   -- without a metric every operator costs 1
   pub costs : parts.metric ≡ false → IsTrue (list_all (λ o. nat_eq o.cost 1) parts.operators)
   pub few_rules : length parts.rules ≤ 4194304
   pub rules : IsTrue (list_all (is_rule parts.variables parts.init) parts.rules)
-
-abbrev pub is_unconditional : Effect → Bool
-is_unconditional effect = nat_eq (length effect.conds) 0
-
--- no derived variables, no mutex groups, no conditional effects, no rules
-pub record IsPlain (parts : Parts) : Type 0 where
-  pub variables : IsTrue (list_all (λ v. not (is_some v.layer)) parts.variables)
-  pub groups : length parts.groups ≡ 0
-  pub effects : IsTrue (list_all (λ o. list_all is_unconditional o.effects) parts.operators)
-  pub rules : length parts.rules ≡ 0

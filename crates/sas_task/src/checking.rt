@@ -1,80 +1,137 @@
-// The task type, and the check of a task's parts.
-ghost use Rattle.std.specs.Prelude.{◌≡◌, ◌<◌, ◌≤◌, ◌↔◌, IsTrue, IsOk, IfOk, length, nat_eq, nat_lt, nat_le, not, is_some};
+// The check of a task's parts.
+ghost use Rattle.std.specs.Prelude.{◌≡◌, ◌≤◌, ◌<◌, ◌&&◌, length, option_map, take, drop, filter, nat_lt, not, position, IfSome, None, Some, if◌then◌else◌};
 ghost use Rattle.std.specs.List.{list_all, zip};
-ghost use Rattle.sas_task.specs.WellFormed.{IsWellFormed, IsPlain, is_variable as variable_test, are_facts as facts_test, is_operator as operator_test, is_rule as rule_test, starts, fact_count, is_unconditional as unconditional_test};
+ghost use Rattle.sas_task.specs.WellFormed.{is_fact as fact_test, starts, is_default as default_test};
+ghost use Rattle.sas_task.specs.Costs.{is_unit_cost};
+ghost use Rattle.sas_task.specs.Refusals.{is_sound_effect as sound_effect, is_sound_operator as sound_operator, is_sound_rule as sound_rule, is_sound as sound, is_wide as wide, is_good_rule as good_rule, causes, first_cause, too_large, condition_counts, refusal_of, brought, unless};
+ghost use Rattle.sas_task.specs.declared.refusals.What.TheVariants.{Conditions};
 
-use crate::conditions::{are_facts, is_few, is_operator, is_variable};
+use crate::conditions::{are_facts, is_derived, is_fact};
 use crate::contents::{Effect, Fact, Operator, Parts, Rule, Variable};
-use crate::rules::is_rule;
+use crate::limits::{
+    HIGHEST_COST, LONGEST_NAME, MOST, MOST_IN_ALL, above, costs_above, effects_above, fact_count,
+    first_of, layers_above, lists_above, names_above, ranges_above, refuse, rule_conditions_above,
+};
+use crate::order::order_operators;
+use crate::refusals::{TaskError, What};
+use crate::rules::{is_default, is_layered_rule};
+use crate::task::{Task, each_costs_one};
 use lama_num::Seq;
-use std::marker::Model;
-use thiserror::Error;
 
-/// The most facts of a task: the sum of its variables' numbers of values.
-const MOST_FACTS: usize = 4_194_304;
+// sizes
 
-/// The most operators, and the most rules.
-const MOST_OPERATORS: usize = 4_194_304;
-
-/// A task: parts that are well formed.
-#[derive(Debug, Drop)]
-pub struct Task {
-    parts: Parts,
+/// Refuses what there is too much of, up to the operators.
+fn refuse_many(parts: &Parts) -> Result<(), TaskError>
+    ensures { result ≡ unless (first_cause (take 8 (causes parts.now))) tt }
+{
+    refuse(What::Variables, above(MOST, parts.variables.len()))?;
+    refuse(What::Range, ranges_above(&parts.variables))?;
+    refuse(What::Layer, layers_above(&parts.variables))?;
+    refuse(
+        What::Facts,
+        above(MOST_IN_ALL, fact_count(&parts.variables)),
+    )?;
+    refuse(What::Groups, above(MOST, parts.groups.len()))?;
+    refuse(What::GroupFacts, lists_above(&parts.groups, MOST))?;
+    refuse(What::Goals, above(MOST, parts.goal.len()))?;
+    refuse(What::Operators, above(MOST_IN_ALL, parts.operators.len()))
 }
 
-impl Model for Task {
-    ghost use Rattle.sas_task.specs.declared.contents.Parts.{Parts as TheParts};
-    ghost use Rattle.sas_task.specs.WellFormed.{IsWellFormed};
-
-    ghost Value = { TheParts };
-
-    ghost view = { λ t. t.parts };
-
-    ghost invariant = { λ t. IsWellFormed t.parts };
+/// Refuses what there is too much of, from the effects on.
+fn refuse_much(parts: &Parts) -> Result<(), TaskError>
+    ensures { result ≡ unless (first_cause (take 4 (drop 9 (causes parts.now)))) tt }
+{
+    refuse(What::Effects, effects_above(&parts.operators))?;
+    refuse(What::Rules, above(MOST_IN_ALL, parts.rules.len()))?;
+    refuse(What::Cost, costs_above(&parts.operators))?;
+    refuse(What::Name, names_above(&parts.variables, &parts.operators))
 }
 
-impl Task {
-    /// The parts, which are well formed.
-    pub fn parts(&self) -> &Parts
-        ensures parts { result.now ≡ self.now }
-        ensures well_formed { IsWellFormed self.now }
-    {
-        &self.parts
+// derived variables
+
+fn is_wide(variable: &Variable) -> bool
+    ensures { result ≡ wide variable.now }
+{
+    variable.layer.is_some() && variable.values.len() != 2
+}
+
+fn first_wide(variables: &[Variable]) -> Option<usize>
+    ensures place { result ≡ position wide variables.now }
+    ensures within { IfSome result (λ place. place < length variables.now) }
+{
+    variables.iter().position(is_wide)
+}
+
+fn refuse_wide(variables: &[Variable]) -> Result<(), TaskError>
+    requires { length variables.now ≤ 1048576 }
+    ensures { result ≡ unless (option_map (λ var. TaskError.WideDerived var) (position wide variables.now)) tt }
+{
+    match first_wide(variables) {
+        Some(var) => Err(TaskError::WideDerived { var: var as u32 }),
+        None => Ok(()),
     }
 }
 
-/// Why parts are no task.
-#[derive(Clone, Copy, Debug, PartialEq, Eq, Error)]
-pub enum TaskError {
-    /// They aren't well formed, or aren't plain.
-    #[error("refused")]
-    NotPlain,
-}
+// facts
 
-fn are_variables(variables: &[Variable]) -> bool
-    ensures { result ≡ list_all variable_test variables.now }
+fn is_sound_effect(variables: &[Variable], effect: &Effect) -> bool
+    ensures { result ≡ sound_effect variables.now effect.now }
 {
-    variables.iter().all(is_variable)
+    are_facts(variables, &effect.conds)
+        && is_fact(variables, effect.fact)
+        && !is_derived(variables, effect.fact.var)
 }
 
-fn has_few_facts(variables: &[Variable]) -> bool
-    ensures { result ≡ nat_le (fact_count variables.now) 4194304 }
+fn are_sound_effects(variables: &[Variable], effects: &[Effect]) -> bool
+    ensures { result ≡ list_all (sound_effect variables.now) effects.now }
 {
-    let mut facts = 0;
-    for variable in variables {
-        let range = variable.values.len();
-        if range > MOST_FACTS - facts {
-            return false;
-        }
-        facts += range;
-    }
-    true
+    effects
+        .iter()
+        .all(|effect| is_sound_effect(variables, effect))
 }
 
-fn are_groups(variables: &[Variable], groups: &[Seq<Fact>]) -> bool
-    ensures { result ≡ list_all (facts_test variables.now) groups.now }
+fn is_sound_operator(variables: &[Variable], operator: &Operator) -> bool
+    ensures { result ≡ sound_operator variables.now operator.now }
+{
+    are_facts(variables, &operator.pre) && are_sound_effects(variables, &operator.effects)
+}
+
+fn are_sound_operators(variables: &[Variable], operators: &[Operator]) -> bool
+    ensures { result ≡ list_all (sound_operator variables.now) operators.now }
+{
+    operators
+        .iter()
+        .all(|operator| is_sound_operator(variables, operator))
+}
+
+fn is_sound_rule(variables: &[Variable], rule: &Rule) -> bool
+    ensures { result ≡ sound_rule variables.now rule.now }
+{
+    are_facts(variables, &rule.conds) && is_fact(variables, rule.head)
+}
+
+fn are_sound_rules(variables: &[Variable], rules: &[Rule]) -> bool
+    ensures { result ≡ list_all (sound_rule variables.now) rules.now }
+{
+    rules.iter().all(|rule| is_sound_rule(variables, rule))
+}
+
+fn are_sound_groups(variables: &[Variable], groups: &[Seq<Fact>]) -> bool
+    ensures { result ≡ list_all (λ group. list_all (fact_test variables.now) group) groups.now }
 {
     groups.iter().all(|group| are_facts(variables, group))
+}
+
+fn has_value(variable: &Variable) -> bool
+    ensures { result ≡ nat_lt 0 (length variable.now.values) }
+{
+    !variable.values.is_empty()
+}
+
+fn have_values(variables: &[Variable]) -> bool
+    ensures { result ≡ list_all (λ v. nat_lt 0 (length v.values)) variables.now }
+{
+    variables.iter().all(has_value)
 }
 
 fn are_values(variables: &[Variable], init: &[u32]) -> bool
@@ -89,151 +146,123 @@ fn is_start(variables: &[Variable], init: &[u32]) -> bool
     init.len() == variables.len() && are_values(variables, init)
 }
 
-fn are_operators(variables: &[Variable], operators: &[Operator]) -> bool
-    ensures { result ≡ list_all (operator_test variables.now) operators.now }
+fn is_sound(parts: &Parts) -> bool
+    ensures { result ≡ sound parts.now }
 {
-    operators
-        .iter()
-        .all(|operator| is_operator(variables, operator))
-}
-
-fn each_costs_one(operators: &[Operator]) -> bool
-    ensures { result ≡ list_all (λ o. nat_eq o.cost 1) operators.now }
-{
-    operators.iter().all(|operator| operator.cost == 1)
-}
-
-fn are_rules(variables: &[Variable], init: &[u32], rules: &[Rule]) -> bool
-    ensures { result ≡ list_all (rule_test variables.now init.now) rules.now }
-{
-    rules.iter().all(|rule| is_rule(variables, init, rule))
-}
-
-fn is_well_formed(parts: &Parts) -> bool
-    ensures { IsTrue result ↔ IsWellFormed parts.now }
-{
-    is_few(&parts.variables)
-        && are_variables(&parts.variables)
-        && has_few_facts(&parts.variables)
-        && is_few(&parts.groups)
-        && are_groups(&parts.variables, &parts.groups)
+    have_values(&parts.variables)
+        && are_sound_groups(&parts.variables, &parts.groups)
         && is_start(&parts.variables, &parts.init)
         && are_facts(&parts.variables, &parts.goal)
-        && parts.operators.len() <= MOST_OPERATORS
-        && are_operators(&parts.variables, &parts.operators)
-        && (parts.metric || each_costs_one(&parts.operators))
-        && parts.rules.len() <= MOST_OPERATORS
-        && are_rules(&parts.variables, &parts.init, &parts.rules)
+        && are_sound_operators(&parts.variables, &parts.operators)
+        && are_sound_rules(&parts.variables, &parts.rules)
 }
 
-fn none_is_derived(variables: &[Variable]) -> bool
-    ensures { result ≡ list_all (λ v. not (is_some v.layer)) variables.now }
+fn refuse_unsound(parts: &Parts) -> Result<(), TaskError>
+    ensures { result ≡ unless (if sound parts.now then None else Some TaskError.BadFact) tt }
 {
-    variables.iter().all(|variable| variable.layer.is_none())
-}
-
-fn is_unconditional(effect: &Effect) -> bool
-    ensures { result ≡ unconditional_test effect.now }
-{
-    effect.conds.as_slice().is_empty()
-}
-
-fn are_unconditional(effects: &[Effect]) -> bool
-    ensures { result ≡ list_all unconditional_test effects.now }
-{
-    effects.iter().all(is_unconditional)
-}
-
-fn are_all_unconditional(operators: &[Operator]) -> bool
-    ensures { result ≡ list_all (λ o. list_all unconditional_test o.effects) operators.now }
-{
-    operators
-        .iter()
-        .all(|operator| are_unconditional(&operator.effects))
-}
-
-fn is_plain(parts: &Parts) -> bool
-    ensures { IsTrue result ↔ IsPlain parts.now }
-{
-    none_is_derived(&parts.variables)
-        && parts.groups.is_empty()
-        && are_all_unconditional(&parts.operators)
-        && parts.rules.is_empty()
-}
-
-/// The task with these parts, where they are well formed and plain. Takes no memory, and drops the
-/// parts where it refuses them.
-pub fn check(parts: Parts) -> Result<Task, TaskError>
-    ensures iff { IsOk result ↔ (IsWellFormed parts × IsPlain parts) }
-    ensures task { IfOk result (λ task. task ≡ parts) }
-{
-    if is_well_formed(&parts) && is_plain(&parts) {
-        Ok(Task { parts })
-    } else {
-        Err(TaskError::NotPlain)
-    }
-}
-
-#[cfg(test)]
-mod tests {
-    use super::*;
-    use std::alloc::{AllocError, Global};
-    use std::test::Fail;
-
-    fn text(alloc: Global, bytes: &[u8]) -> Result<Seq<u8>, AllocError> {
-        Ok(Seq::from(Vec::from_slice(alloc, bytes)?))
-    }
-
-    /// A variable of two values, and an operator that gives the fact at that cost.
-    fn switch(alloc: Global, fact: Fact, cost: u32) -> Result<Parts, AllocError> {
-        let mut values = Seq::new(alloc);
-        values.push(text(alloc, b"off")?)?;
-        values.push(text(alloc, b"on")?)?;
-        let mut variables = Seq::new(alloc);
-        variables.push(Variable {
-            name: text(alloc, b"switch")?,
-            layer: None,
-            values,
-        })?;
-        let mut effects = Seq::new(alloc);
-        effects.push(Effect {
-            conds: Seq::new(alloc),
-            fact,
-        })?;
-        let mut operators = Seq::new(alloc);
-        operators.push(Operator {
-            name: text(alloc, b"turn")?,
-            pre: Seq::new(alloc),
-            effects,
-            cost,
-        })?;
-        Ok(Parts {
-            metric: false,
-            variables,
-            groups: Seq::new(alloc),
-            init: Seq::from(Vec::from_slice(alloc, &[0])?),
-            goal: Seq::from(Vec::from_slice(alloc, &[Fact { var: 0, val: 1 }])?),
-            operators,
-            rules: Seq::new(alloc),
-        })
-    }
-
-    #[test]
-    fn parts_are_checked(rt: HostRuntime) -> Result<(), Fail> {
-        let alloc = rt.alloc();
-        let table = [
-            (Fact { var: 0, val: 1 }, 1, true),
-            (Fact { var: 0, val: 2 }, 1, false),
-            (Fact { var: 1, val: 0 }, 1, false),
-            (Fact { var: 0, val: 1 }, 2, false),
-        ];
-        for (fact, cost, want) in table {
-            let checked = check(switch(alloc, fact, cost)?);
-            assert_eq!(rt; checked.is_ok(), want, "{fact:?} at cost {cost}");
-        }
-        let task = check(switch(alloc, Fact { var: 0, val: 1 }, 1)?)?;
-        assert_eq!(rt; task.parts().operators.len(), 1);
-        assert_eq!(rt; task.parts().init.as_slice(), [0].as_slice());
+    if is_sound(parts) {
         Ok(())
+    } else {
+        Err(TaskError::BadFact)
     }
+}
+
+// costs and rules
+
+fn refuse_costs(parts: &Parts) -> Result<(), TaskError>
+    ensures { result ≡ unless (if not parts.now.metric && not (is_unit_cost parts.now) then Some TaskError.BadCost else None) tt }
+{
+    if parts.metric || each_costs_one(&parts.operators) {
+        Ok(())
+    } else {
+        Err(TaskError::BadCost)
+    }
+}
+
+fn is_good_rule(variables: &[Variable], init: &[u32], rule: &Rule) -> bool
+    ensures { result ≡ good_rule variables.now init.now rule.now }
+{
+    if is_default(init, rule.head) {
+        is_derived(variables, rule.head.var)
+    } else {
+        is_layered_rule(variables, init, rule)
+    }
+}
+
+fn first_bad_rule(variables: &[Variable], init: &[u32], rules: &[Rule]) -> Option<usize>
+    ensures place { result ≡ position (λ r. not (good_rule variables.now init.now r)) rules.now }
+    ensures within { IfSome result (λ place. place < length rules.now) }
+{
+    rules
+        .iter()
+        .position(|rule| !is_good_rule(variables, init, rule))
+}
+
+fn refuse_rules(parts: &Parts) -> Result<(), TaskError>
+    requires { length parts.now.rules ≤ 4194304 }
+    ensures { result ≡ unless (option_map (λ rule. TaskError.BadRule rule) (position (λ r. not (good_rule parts.now.variables parts.now.init r)) parts.now.rules)) tt }
+{
+    match first_bad_rule(&parts.variables, &parts.init, &parts.rules) {
+        Some(rule) => Err(TaskError::BadRule { rule: rule as u32 }),
+        None => Ok(()),
+    }
+}
+
+fn keep_rules(init: &[u32], rules: &mut Vec<Rule>)
+    ensures { rules.new.items ≡ filter (λ r. not (default_test init.now r.head)) rules.old.items }
+{
+    rules.retain(|rule| !is_default(init, rule.head));
+}
+
+/// Refuses parts for any cause from the number of effects on.
+fn refuse_others(parts: &Parts) -> Result<(), TaskError>
+    requires { length parts.now.variables ≤ 1048576 }
+    ensures { result ≡ unless (first_cause (drop 9 (causes parts.now))) tt }
+{
+    refuse_much(parts)?;
+    refuse_wide(&parts.variables)?;
+    refuse_unsound(parts)?;
+    refuse_costs(parts)?;
+    refuse_rules(parts)
+}
+
+/// What is made of parts: preconditions are in order, and rules that give a default are left out.
+/// Refuses a number of conditions that is above the limit.
+#[tactic(auto, using(crate::proofs::Above::above_append))]
+fn bring(parts: Parts) -> Result<Parts, TaskError>
+    ensures { result ≡ unless (too_large Conditions 1048576 (condition_counts parts)) (brought parts) }
+{
+    let mut operators = parts.operators.into_vec();
+    let conditions = order_operators(&mut operators);
+    refuse(
+        What::Conditions,
+        first_of(conditions, rule_conditions_above(&parts.rules)),
+    )?;
+    let mut rules = parts.rules.into_vec();
+    keep_rules(&parts.init, &mut rules);
+    Ok(Parts {
+        metric: parts.metric,
+        variables: parts.variables,
+        groups: parts.groups,
+        init: parts.init,
+        goal: parts.goal,
+        operators: Seq::from(operators),
+        rules: Seq::from(rules),
+    })
+}
+
+/// The task with these parts. Rules that give a variable its default are left out, and the
+/// preconditions of each operator are brought into the order of the canonical task text. Takes no
+/// memory, and drops the parts where it refuses them.
+///
+/// Where an operator has many preconditions, the time that its order takes grows with their number
+/// times the number of preconditions and effects.
+pub fn check(parts: Parts) -> Result<Task, TaskError>
+    ensures { result ≡ unless (refusal_of parts) (brought parts) }
+{
+    refuse_many(&parts)?;
+    let others = refuse_others(&parts);
+    let brought = bring(parts)?;
+    others?;
+    Ok(Task::new(brought))
 }

@@ -25,8 +25,9 @@ pub struct Effect {
 
 /// An action: it can be taken where the facts of `pre` hold.
 ///
-/// `pre` has the conditions that the operator doesn't change, and then those that its effects
-/// change, in the order of the effects.
+/// In a task `pre` has the prevail conditions first, which stand for no effect, and then those that
+/// stand for effects, in the order of the effects: of the preconditions on a variable the first
+/// stands for the first effect on it, the second for the second, and so on.
 #[derive(Debug, Drop)]
 pub struct Operator {
     pub name: Seq<u8>,
@@ -35,7 +36,17 @@ pub struct Operator {
     pub cost: u32,
 }
 
-/// An axiom rule: where the conditions hold, the derived variable of the head has its value.
+/// How an operator counts: at its cost, as 1, or at one more than its cost. In a task whose
+/// operators all cost 1, the last counts 1 as well.
+#[derive(Clone, Copy, Debug, PartialEq, Eq)]
+pub enum CostKind {
+    Normal,
+    One,
+    PlusOne,
+}
+
+/// An axiom rule: where the conditions hold, the derived variable of the head has its value. In a
+/// task no rule gives a variable its default.
 #[derive(Debug, Drop)]
 pub struct Rule {
     pub conds: Seq<Fact>,

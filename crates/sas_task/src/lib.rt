@@ -8,9 +8,18 @@
 mod checking;
 mod conditions;
 mod contents;
+mod facts;
+mod limits;
+mod order;
 mod plans;
+mod refusals;
 mod rules;
+mod task;
+#[cfg(test)]
+mod tests;
 
-pub use checking::{Task, TaskError, check};
-pub use contents::{Effect, Fact, Operator, Parts, Rule, Variable};
+pub use checking::check;
+pub use contents::{CostKind, Effect, Fact, Operator, Parts, Rule, Variable};
 pub use plans::Kept;
+pub use refusals::{TaskError, What};
+pub use task::Task;

@@ -1,12 +1,13 @@
 // Tests of axiom rules.
 ghost use Rattle.std.specs.Prelude.{◌≡◌, ◌<◌, length};
 ghost use Rattle.std.specs.List.{list_all};
-ghost use Rattle.sas_task.specs.WellFormed.{is_default as default_test, is_layered_below as below_test, is_layered_rule as layered_test, is_rule as rule_test};
+ghost use Rattle.sas_task.specs.WellFormed.{is_default as default_test, is_layered_below as below_test, is_layered_rule as layered_test};
 
-use crate::conditions::{are_facts, is_fact, layer_of};
+use crate::conditions::layer_of;
 use crate::contents::{Fact, Rule, Variable};
 
-fn is_default(init: &[u32], fact: Fact) -> bool
+/// Whether a fact is the default of its variable.
+pub fn is_default(init: &[u32], fact: Fact) -> bool
     ensures { result ≡ default_test init.now fact }
 {
     match init.get(fact.var as usize) {
@@ -38,20 +39,12 @@ fn are_layered_below(variables: &[Variable], init: &[u32], layer: u32, facts: &[
         .all(|fact| is_layered_below(variables, init, layer, *fact))
 }
 
-fn is_layered_rule(variables: &[Variable], init: &[u32], rule: &Rule) -> bool
+/// Whether the head is of a derived variable, and the conditions lie in its layer or below.
+pub fn is_layered_rule(variables: &[Variable], init: &[u32], rule: &Rule) -> bool
     ensures { result ≡ layered_test variables.now init.now rule.now }
 {
     match layer_of(variables, rule.head.var) {
         None => false,
         Some(layer) => are_layered_below(variables, init, layer, &rule.conds),
     }
-}
-
-pub fn is_rule(variables: &[Variable], init: &[u32], rule: &Rule) -> bool
-    ensures { result ≡ rule_test variables.now init.now rule.now }
-{
-    are_facts(variables, &rule.conds)
-        && is_fact(variables, rule.head)
-        && !is_default(init, rule.head)
-        && is_layered_rule(variables, init, rule)
 }

@@ -1,0 +1,9 @@
+use Rattle.std.proofs.Common.{◌≡◌, length}
+use Rattle.sas_reader.specs.Lines.{without_right}
+use Rattle.sas_reader.proofs.cursor.without_right.Given as goal
+
+abbrev pub invariant-loop-b : goal.invariant-loop-b
+invariant-loop-b l = without_right l.rest ≡ without_right l.line
+
+abbrev pub decreases-loop-b : goal.decreases-loop-b
+decreases-loop-b l = length l.rest

@@ -1,8 +1,0 @@
-use Rattle.std.proofs.Common.{◌≡◌, ◌-◌}
-use Rattle.sas_reader.specs.Formats.{FactIn, line, times}
-use Rattle.sas_reader.specs.Walks.{walk}
-use Rattle.sas_reader.proofs.Walking.{behind}
-use Rattle.sas_reader.proofs.operators.read_so_many_facts.Given as goal
-
-abbrev pub invariant-loop-i : goal.invariant-loop-i
-invariant-loop-i l = behind l.facts.items (walk (times (l.count - l._i) (line (FactIn l.ranges))) l.cursor) ≡ walk (times l.count (line (FactIn l.ranges))) l.fn.cursor

@@ -1,0 +1,9 @@
+use Rattle.std.proofs.Common.{◌≡◌, ◌-◌}
+use Rattle.sas_reader.specs.Formats.{FactIn, line, times}
+use Rattle.sas_reader.specs.TaskText.{group, operator, rule}
+use Rattle.sas_reader.specs.Walks.{walk}
+use Rattle.sas_reader.proofs.Walking.{behind}
+use Rattle.sas_reader.proofs.operators.read_so_many_rules.Given as goal
+
+abbrev pub invariant-loop-i : goal.invariant-loop-i
+invariant-loop-i l = behind l.rules.items (walk (times (l.count - l._i) (rule l.shapes l.init)) l.cursor) ≡ walk (times l.count (rule l.shapes l.init)) l.fn.cursor

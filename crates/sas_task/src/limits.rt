@@ -1,0 +1,181 @@
+// The first of some quantities that is above its limit.
+ghost use Rattle.std.specs.Prelude.{◌≡◌, ◌≤◌, ◌<◌, ◌∷◌, ◌++◌, [], None, length, map, flat_map, filter_map, option_map};
+ghost use Rattle.std.specs.Option.{option_or};
+ghost use Rattle.sas_task.specs.WellFormed.{fact_count as the_fact_count};
+ghost use Rattle.sas_task.specs.Refusals.{above as the_above, names_of, unless};
+
+use crate::contents::{Effect, Operator, Rule, Variable};
+use crate::refusals::{TaskError, What};
+use lama_num::Seq;
+
+/// The most variables, values of a variable, mutex groups, effects, and facts of one list; and the
+/// highest layer.
+pub const MOST: usize = 1_048_576;
+
+/// The most operators, rules, and facts of all variables.
+pub const MOST_IN_ALL: usize = 4_194_304;
+
+pub const HIGHEST_COST: u32 = 2_147_483_647;
+
+pub const LONGEST_NAME: usize = 4096;
+
+/// Refuses a quantity that has a count above its limit.
+pub fn refuse(what: What, count: Option<usize>) -> Result<(), TaskError>
+    ensures { result ≡ unless (option_map (λ n. TaskError.TooLarge what n) count) tt }
+{
+    match count {
+        Some(count) => Err(TaskError::TooLarge {
+            what,
+            count: count as u64,
+        }),
+        None => Ok(()),
+    }
+}
+
+pub fn above(most: usize, count: usize) -> Option<usize>
+    ensures { result ≡ the_above most (count ∷ []) }
+{
+    if count > most { Some(count) } else { None }
+}
+
+/// The first of two counts, if it is there, else the second.
+pub fn first_of(first: Option<usize>, second: Option<usize>) -> Option<usize>
+    ensures { result ≡ option_or first second }
+{
+    first.or(second)
+}
+
+pub fn ranges_above(variables: &[Variable]) -> Option<usize>
+    ensures { result ≡ the_above 1048576 (map (λ v. length v.values) variables.now) }
+{
+    for variable in variables {
+        if variable.values.len() > MOST {
+            return Some(variable.values.len());
+        }
+    }
+    None
+}
+
+pub fn layers_above(variables: &[Variable]) -> Option<usize>
+    ensures { result ≡ the_above 1048576 (filter_map (λ v. v.layer) variables.now) }
+{
+    for variable in variables {
+        match variable.layer {
+            Some(layer) if layer as usize > MOST => return Some(layer as usize),
+            _ => {}
+        }
+    }
+    None
+}
+
+/// The number of facts, of variables that are few and have few values each.
+pub fn fact_count(variables: &[Variable]) -> usize
+    requires few { length variables.now ≤ 1048576 }
+    requires small { the_above 1048576 (map (λ v. length v.values) variables.now) ≡ None }
+    ensures { result ≡ the_fact_count variables.now }
+{
+    let mut facts = 0;
+    for variable in variables {
+        facts += variable.values.len();
+    }
+    facts
+}
+
+/// The first list that is too long.
+pub fn lists_above<T>(lists: &[Seq<T>], most: usize) -> Option<usize>
+    ensures { result ≡ the_above most (map (λ list. length list) lists.now) }
+{
+    for list in lists {
+        if list.len() > most {
+            return Some(list.len());
+        }
+    }
+    None
+}
+
+pub fn effect_conditions_above(effects: &[Effect]) -> Option<usize>
+    ensures { result ≡ the_above 1048576 (map (λ e. length e.conds) effects.now) }
+{
+    for effect in effects {
+        if effect.conds.len() > MOST {
+            return Some(effect.conds.len());
+        }
+    }
+    None
+}
+
+pub fn rule_conditions_above(rules: &[Rule]) -> Option<usize>
+    ensures { result ≡ the_above 1048576 (map (λ r. length r.conds) rules.now) }
+{
+    for rule in rules {
+        if rule.conds.len() > MOST {
+            return Some(rule.conds.len());
+        }
+    }
+    None
+}
+
+pub fn effects_above(operators: &[Operator]) -> Option<usize>
+    ensures { result ≡ the_above 1048576 (map (λ o. length o.effects) operators.now) }
+{
+    for operator in operators {
+        if operator.effects.len() > MOST {
+            return Some(operator.effects.len());
+        }
+    }
+    None
+}
+
+pub fn costs_above(operators: &[Operator]) -> Option<usize>
+    ensures { result ≡ the_above 2147483647 (map (λ o. o.cost) operators.now) }
+{
+    for operator in operators {
+        if operator.cost > HIGHEST_COST {
+            return Some(operator.cost as usize);
+        }
+    }
+    None
+}
+
+fn variable_name_above(variable: &Variable) -> Option<usize>
+    ensures { result ≡ the_above 4096 (names_of variable.now) }
+{
+    if variable.name.len() > LONGEST_NAME {
+        return Some(variable.name.len());
+    }
+    lists_above(&variable.values, LONGEST_NAME)
+}
+
+fn variable_names_above(variables: &[Variable]) -> Option<usize>
+    ensures { result ≡ the_above 4096 (flat_map names_of variables.now) }
+{
+    for variable in variables {
+        let longest = variable_name_above(variable);
+        if longest.is_some() {
+            return longest;
+        }
+    }
+    None
+}
+
+fn operator_names_above(operators: &[Operator]) -> Option<usize>
+    ensures { result ≡ the_above 4096 (map (λ o. length o.name) operators.now) }
+{
+    for operator in operators {
+        if operator.name.len() > LONGEST_NAME {
+            return Some(operator.name.len());
+        }
+    }
+    None
+}
+
+/// The first length of a name that is above the limit.
+#[tactic(auto, using(crate::proofs::Above::above_append))]
+pub fn names_above(variables: &[Variable], operators: &[Operator]) -> Option<usize>
+    ensures { result ≡ the_above 4096 (flat_map names_of variables.now ++ map (λ o. length o.name) operators.now) }
+{
+    first_of(
+        variable_names_above(variables),
+        operator_names_above(operators),
+    )
+}
