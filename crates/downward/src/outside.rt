@@ -1,5 +1,5 @@
 // The real outside: the current folder, the clock, and standard output.
-ghost use Rattle.std.specs.Prelude.{◌≡◌, ◌≤◌, IfOk, OnErr, length};
+ghost use Rattle.std.specs.Prelude.{◌≡◌, ◌≤◌, IfOk, None, OnErr, length};
 ghost use Rattle.lama_host.specs.Folder.{Rose};
 ghost use Rattle.lama_host.specs.Pieces.{Fits};
 
@@ -19,7 +19,9 @@ pub struct RealHost<'a, R: Files> {
 }
 
 impl<'a, R: Files> RealHost<'a, R> {
-    pub fn new(rt: &'a R) -> RealHost<'a, R> {
+    pub fn new(rt: &'a R) -> RealHost<'a, R>
+        ensures { result.running ≡ None }
+    {
         RealHost {
             rt,
             running: None,

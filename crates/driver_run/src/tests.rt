@@ -1,5 +1,5 @@
 // Runs over a small folder in memory, and what they leave.
-ghost use Rattle.std.specs.Prelude.{◌≡◌, ◌<◌, ◌↔◌, IsTrue, length};
+ghost use Rattle.std.specs.Prelude.{◌≡◌, ◌<◌, ◌↔◌, IfOk, IsTrue, None, length};
 
 use crate::{
     Ended, EntryEnd, Input, Outcome, ReadError, Report, Whole, Why, WordsFault, read_whole, run,
@@ -60,7 +60,9 @@ fn words_of(alloc: Global, words: &[&str]) -> Result<Vec<String>, AllocError> {
     Ok(all)
 }
 
-fn report_of(alloc: Global, words: &[&str], host: &mut SmallHost) -> Result<Report, NoMemory> {
+fn report_of(alloc: Global, words: &[&str], host: &mut SmallHost) -> Result<Report, NoMemory>
+    requires { host.old.running ≡ None }
+{
     let words = words_of(alloc, words)?;
     match run(alloc, &words, host, &mut StillClock, &mut Void) {
         Ended::Done(report) => Ok(report),
@@ -69,7 +71,9 @@ fn report_of(alloc: Global, words: &[&str], host: &mut SmallHost) -> Result<Repo
 }
 
 /// A folder with an old plan, another file, and perhaps the task.
-fn folder(alloc: Global, task: Option<&str>) -> Result<SmallHost, AllocError> {
+fn folder(alloc: Global, task: Option<&str>) -> Result<SmallHost, AllocError>
+    ensures { IfOk result (λ host. host.running ≡ None) }
+{
     let mut host = SmallHost::new(alloc);
     host.put("sas_plan", "an old plan")?;
     host.put("other", "stays")?;

@@ -34,7 +34,9 @@ fn copied(bytes: &[u8], start: u64, buf: &mut [u8]) -> usize
 }
 
 impl SmallHost {
-    pub fn new(alloc: Global) -> SmallHost {
+    pub fn new(alloc: Global) -> SmallHost
+        ensures { result.running ≡ None }
+    {
         SmallHost {
             alloc,
             files: Vec::new(alloc),
@@ -72,7 +74,9 @@ impl SmallHost {
     }
 
     /// Each read fails from now on.
-    pub fn fail_reads(&mut self) {
+    pub fn fail_reads(&mut self)
+        ensures { self.new.running ≡ self.old.running }
+    {
         self.reads_fail = true;
     }
 
