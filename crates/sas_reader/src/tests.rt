@@ -368,7 +368,7 @@ fn faults_of_places_are_told(rt: HostRuntime) -> Result<(), Fail> {
 
 #[test]
 fn faults_of_layers_are_told(rt: HostRuntime) -> Result<(), Fail> {
-    let rows: [(u32, &[u8], SasFault); 19] = [
+    let rows: [(u32, &[u8], SasFault); 21] = [
         (10, b"x", SasFault::BadNumber { line: 10 }),
         (17, b"1048577", too_large(What::Layer, 1048577)),
         (18, b"3", SasFault::WideDerived { var: 1 }),
@@ -385,6 +385,8 @@ fn faults_of_layers_are_told(rt: HostRuntime) -> Result<(), Fail> {
         (56, b"0 0 1", SasFault::BadRule { line: 56 }),
         (56, b"1 2 1", SasFault::BadFact { line: 56 }),
         (60, b"2 0", SasFault::BadRule { line: 61 }),
+        (64, b"1048577", too_large(What::Conditions, 1048577)),
+        (66, b"1 1 2", SasFault::BadFact { line: 66 }),
         (66, b"0 1 0", SasFault::BadRule { line: 66 }),
         (66, b"1 -1 0", SasFault::BadNumber { line: 66 }),
         (67, b"end", bad_word(67)),
