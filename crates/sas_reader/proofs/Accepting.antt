@@ -20,7 +20,7 @@ use Rattle.sas_task.specs.declared.contents.Rule.{Rule}
 use Rattle.sas_task.specs.declared.contents.Parts.{Parts}
 use Rattle.sas_task.specs.declared.refusals.What.{What}
 use Rattle.sas_task.specs.declared.refusals.What.TheVariants.{Bytes, Variables, Groups, GroupFacts, Goals, Operators, Conditions, Effects, Rules, Cost}
-use Rattle.sas_reader.specs.Lines.{Place, lines_of}
+use Rattle.text_lines.specs.Lines.{Place, lines_of}
 use Rattle.sas_reader.specs.Shapes.{shapes_of}
 use Rattle.sas_reader.specs.Reading.{is_narrow, name_line, count_line, layer_line, range_line, value_line, fact_line, effect_line, head_line}
 use Rattle.sas_reader.specs.Formats.{Begin, End, Name, Count, Layer, Range, Below, FactIn, EffectIn, HeadIn, line, times, each}

@@ -5,7 +5,7 @@ use Rattle.std.specs.Result.{result_ok}
 use Rattle.std.proofs.lemmas.Bool.Decides.{nat_tests}
 use Rattle.std.specs.Prelude.{IfOk}
 use Rattle.lama_num.specs.Gives.{◌>>=◌, Gives}
-use Rattle.sas_reader.specs.Lines.{Place, lines_of}
+use Rattle.text_lines.specs.Lines.{Place, lines_of}
 use Rattle.sas_reader.specs.Formats.{Format, Done, Line, Kind, Value, value_of}
 use Rattle.sas_reader.specs.Walks.{walk, next, next_by, trailing, whole, parts_in, parts_of, task_of, fault_of}
 use Rattle.sas_reader.specs.TaskText.{task}

@@ -14,7 +14,7 @@ use Rattle.sas_task.specs.declared.contents.Effect.{Effect}
 use Rattle.sas_task.specs.declared.contents.Rule.{Rule}
 use Rattle.sas_task.specs.declared.refusals.What.{What}
 use Rattle.sas_task.specs.declared.refusals.What.TheVariants.{Range, Layer, Facts, Conditions, Name}
-use Rattle.sas_reader.specs.Lines.{words_of}
+use Rattle.text_lines.specs.Lines.{words_of}
 use Rattle.sas_reader.specs.Shapes.{shapes_of, range_in, layer_in, is_below, is_ruled}
 use Rattle.sas_reader.specs.Reading.{or_fault, only_if, at_most, one_number, number_or_none, number_at, number_or_none_at, is_narrow, low_layer, name_line, count_line, layer_line, range_line, value_line, fact_in, fact_at, facts_at, with_fact, at_the_end, fact_line, old_in, change_in, change_at, effect_numbers, effect_line, head_in, head_at, head_line}
 use Rattle.sas_reader.proofs.Inverting.{Both, bind_ok, ok_same, some_same, only_if_ok, or_fault_ok, Then, then_some, Mapped, map_some, end_some, if_some, both_true}

@@ -4,7 +4,7 @@ use Rattle.std.specs.Prelude.{option_and_then, option_map, if◌then◌else◌}
 use Rattle.std.specs.List.{list_all, flat_map}
 use Rattle.lama_num.specs.Gives.{◌>>=◌}
 use Rattle.lama_num.specs.Lists.{both}
-use Rattle.sas_reader.specs.Lines.{Place}
+use Rattle.text_lines.specs.Lines.{Place}
 use Rattle.sas_reader.specs.Formats.{Format, Done, Line, Kind, Value, line, times}
 use Rattle.sas_reader.specs.Formats as formats
 use Rattle.sas_reader.specs.Reading.{or_fault, only_if, at_the_end}

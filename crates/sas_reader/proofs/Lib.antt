@@ -1,5 +1,4 @@
 pub mod Accepting
-pub mod Cuts
 pub mod Firsts
 pub mod Gathering
 pub mod GivenLines

@@ -3,7 +3,7 @@ use Rattle.std.proofs.Common.{◌≡◌, ◌∙◌, sym, ap, refl, ℕ, zero, su
 use Rattle.std.specs.Prelude.{option_to_list}
 use Rattle.std.proofs.lemmas.List.{append-nil}
 use Rattle.lama_num.specs.Gives.{◌>>=◌, Fails}
-use Rattle.sas_reader.specs.Lines.{Place}
+use Rattle.text_lines.specs.Lines.{Place}
 use Rattle.sas_reader.specs.Formats.{Below, EffectIn, line, times, each}
 use Rattle.sas_reader.specs.TaskText.{variable, variables_from, initial, preconditions}
 use Rattle.sas_reader.specs.Walks.{walk, next, fault_of, changed}

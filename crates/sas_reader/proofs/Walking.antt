@@ -2,7 +2,7 @@
 use Rattle.std.proofs.Common.{◌≡◌, ◌∙◌, sym, ap, refl, ℕ, zero, suc, ◌+◌, ◌-◌, ◌<◌, ◌≤◌, ◌++◌, ◌∷◌, [], List, length, take, drop, get_or, drop-cons, add-one, Result, Ok, Err, Option, Some, None, append_assoc, arith}
 use Rattle.std.proofs.lemmas.List.{append-nil, drop_all}
 use Rattle.lama_num.specs.Gives.{◌>>=◌, Fails}
-use Rattle.sas_reader.specs.Lines.{Place}
+use Rattle.text_lines.specs.Lines.{Place}
 use Rattle.sas_reader.specs.Formats.{Format, Done, Line, Kind, Value, line, times, each}
 use Rattle.sas_reader.specs.Formats as formats
 use Rattle.sas_reader.specs.Walks.{walk, next, fault_of}

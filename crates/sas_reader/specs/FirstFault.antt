@@ -1,7 +1,7 @@
 -- What a format wants after lines, texts, and first faults.
 use Rattle.std.specs.Prelude.{◌≡◌, ℕ, ◌+◌, ◌<◌, ◌≤◌, List, [], ◌∷◌, ◌++◌, length, nat_eq, if◌then◌else◌, Option, Some, None, option_and_then, Result, Ok, Err, ◌⊎◌}
 use Rattle.std.specs.Result.{result_ok}
-use Rattle.sas_reader.specs.Lines.{lines_of}
+use Rattle.text_lines.specs.Lines.{lines_of}
 use Rattle.sas_reader.specs.Formats.{Format, Done, Line, Kind, Value, value_of}
 use Rattle.sas_reader.specs.TaskText.{task as the_task}
 use Rattle.sas_task.specs.Refusals.{brought}

@@ -1,6 +1,5 @@
 pub mod FirstFault
 pub mod Formats
-pub mod Lines
 pub mod Reading
 pub mod Shapes
 pub mod TaskText

@@ -3,7 +3,7 @@ use Rattle.std.specs.Prelude.{◌≡◌, ℕ, zero, suc, ◌+◌, List, [], ◌�
 use Rattle.std.specs.Str.{bytes_eq}
 use Rattle.lama_num.specs.Gives.{◌>>=◌}
 use Rattle.lama_num.specs.Decimals.{decimal_of}
-use Rattle.sas_reader.specs.Lines.{words_of}
+use Rattle.text_lines.specs.Lines.{words_of}
 use Rattle.sas_reader.specs.Shapes.{range_in, layer_in, is_ruled}
 use Rattle.sas_task.specs.declared.contents.Fact.{Fact}
 use Rattle.sas_task.specs.declared.contents.Effect.{Effect}

@@ -1,7 +1,7 @@
 -- Walks over a format: what a text gives, or its first fault.
 use Rattle.std.specs.Prelude.{◌≡◌, ℕ, ◌+◌, List, [], ◌∷◌, ◌++◌, map, length, nat_eq, nat_le, if◌then◌else◌, Option, Some, None, Result, Ok, Err}
 use Rattle.lama_num.specs.Gives.{◌>>=◌}
-use Rattle.sas_reader.specs.Lines.{Place, lines_of}
+use Rattle.text_lines.specs.Lines.{Place, lines_of}
 use Rattle.sas_reader.specs.Formats.{Format, Done, Line, Kind, Value, value_of}
 use Rattle.sas_reader.specs.TaskText.{task, preconditions}
 use Rattle.sas_task.specs.declared.contents.Fact.{Fact}

@@ -5,7 +5,6 @@ ghost use Rattle.sas_reader.specs.Formats.{FactIn, line, times};
 ghost use Rattle.sas_reader.specs.TaskText.{facts as the_facts, group as the_group, groups as the_groups, goal as the_goal};
 ghost use Rattle.sas_reader.specs.Walks.{fault_of, walk};
 
-use crate::cursor::Cursor;
 use crate::facts::read_fact;
 use crate::faults::SasError;
 use crate::fields::{read_begin, read_count, read_end};
@@ -14,6 +13,7 @@ use crate::shapes::Shape;
 use lama_num::Seq;
 use sas_task::{Fact, What};
 use std::alloc::Global;
+use text_lines::Cursor;
 
 /// The most facts of a list, and the most mutex groups.
 const MOST: u64 = 1_048_576;

@@ -2,19 +2,18 @@
 ghost use Rattle.std.specs.Prelude.{◌≡◌, ◌≤◌, IfOk, Some, None, length, option_map, option_and_then};
 ghost use Rattle.lama_num.specs.Gives.{Gives};
 ghost use Rattle.sas_reader.specs.Formats.{FactIn, EffectIn, HeadIn};
-ghost use Rattle.sas_reader.specs.Lines.{words_of};
+ghost use Rattle.text_lines.specs.Lines.{words_of};
 ghost use Rattle.sas_reader.specs.Reading.{at_the_end, fact_at as the_fact_at, head_at as the_head_at, fact_line, effect_line, effect_numbers as the_numbers, head_line, seen};
 ghost use Rattle.sas_reader.specs.Walks.{fault_of, next};
 
-use crate::cursor::Cursor;
 use crate::faults::{SasError, SasFault};
 use crate::fields::{at_most, wanted};
 use crate::numbers::{Change, Gathered, change_at, fact_at, facts_at, head_at, number_at};
 use crate::shapes::{Shape, is_ruled};
-use crate::words::Words;
 use lama_num::Seq;
 use sas_task::{Effect, Fact, What};
 use std::alloc::{AllocError, Global};
+use text_lines::{Cursor, Words};
 
 /// The most conditions of an effect.
 const MOST_CONDITIONS: u64 = 1_048_576;

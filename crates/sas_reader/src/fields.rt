@@ -6,13 +6,13 @@ ghost use Rattle.sas_reader.specs.Formats.{Begin, End, Version, ZeroOrOne, Name 
 ghost use Rattle.sas_reader.specs.Reading.{or_fault, one_number as the_number, zero_or_one as the_zero_or_one, only_if, count_line, layer_line, range_line, value_line, at_most as the_limit, is_narrow as narrow_test};
 ghost use Rattle.sas_reader.specs.Walks.{fault_of, first_line, next_by, next};
 
-use crate::cursor::Cursor;
 use crate::faults::{SasError, SasFault, Want};
 use crate::numbers::{number_or_none, one_number};
 use crate::sections::Section;
 use lama_num::Seq;
 use sas_task::What;
 use std::alloc::Global;
+use text_lines::Cursor;
 
 /// The most values of a variable, and the most layers.
 const MOST: u64 = 1_048_576;

@@ -5,7 +5,6 @@
 #![tactic(auto)]
 
 mod conditions;
-mod cursor;
 mod facts;
 mod faults;
 mod fields;
@@ -15,7 +14,6 @@ mod reader;
 mod sections;
 mod shapes;
 mod variables;
-mod words;
 
 pub use faults::{SasError, SasFault, Want};
 pub use reader::read;

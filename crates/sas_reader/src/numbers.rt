@@ -1,13 +1,13 @@
 // Readers of words as numbers and facts.
 ghost use Rattle.std.specs.Prelude.{◌≡◌, ◌≤◌, IfOk, Some, None, length, option_map, codes, if◌then◌else◌};
-ghost use Rattle.sas_reader.specs.Lines.{words_of};
+ghost use Rattle.text_lines.specs.Lines.{words_of};
 ghost use Rattle.sas_reader.specs.Reading.{one_number as the_number, decimal_or_none as the_decimal_or_none, number_or_none as the_number_or_none, number_at as the_number_at, number_or_none_at as the_number_or_none_at, fact_at as the_fact_at, facts_at as the_facts_at, old_in as the_old, change_in as the_change, change_at as the_change_at, head_in as the_head, head_at as the_head_at, seen};
 
 use crate::shapes::{Shape, fact_in, layer_in};
-use crate::words::Words;
 use lama_num::read_decimal;
 use sas_task::Fact;
 use std::alloc::{AllocError, Global};
+use text_lines::Words;
 
 /// The number that a line is.
 pub fn one_number(line: &[u8]) -> Option<u64>

@@ -6,7 +6,6 @@ ghost use Rattle.sas_reader.specs.TaskText.{changes as the_changes, operator as 
 ghost use Rattle.sas_reader.specs.Walks.{fault_of, walk, changed};
 
 use crate::conditions::read_facts;
-use crate::cursor::Cursor;
 use crate::facts::{read_effect, read_head};
 use crate::faults::SasError;
 use crate::fields::{read_begin, read_count, read_end, read_name};
@@ -15,6 +14,7 @@ use crate::shapes::Shape;
 use lama_num::Seq;
 use sas_task::{Effect, Fact, Operator, Rule, What};
 use std::alloc::{AllocError, Global};
+use text_lines::Cursor;
 
 /// The most effects of an operator.
 const MOST: u64 = 1_048_576;

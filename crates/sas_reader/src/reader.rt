@@ -2,7 +2,7 @@
 ghost use Rattle.std.specs.Prelude.{◌≡◌, ◌≤◌, IfOk, None, length};
 ghost use Rattle.lama_num.specs.Gives.{Gives};
 ghost use Rattle.sas_reader.specs.FirstFault.{IsTextOf, IsFirstFaultOf};
-ghost use Rattle.sas_reader.specs.Lines.{lines_of};
+ghost use Rattle.text_lines.specs.Lines.{lines_of};
 ghost use Rattle.sas_reader.specs.Shapes.{shapes_of};
 ghost use Rattle.sas_reader.specs.TaskText.{opening as the_opening, ends as the_ends, rest as the_rest, task as the_task};
 ghost use Rattle.sas_reader.specs.Walks.{fault_of, walk, trailing, parts_in, parts_of, task_of};
@@ -10,7 +10,6 @@ ghost use Rattle.sas_reader.specs.declared.faults.SasFault.{SasFault as TheFault
 ghost use Rattle.sas_task.specs.Refusals.{brought, refusal_of};
 
 use crate::conditions::{read_goal, read_groups};
-use crate::cursor::Cursor;
 use crate::faults::{SasError, SasFault};
 use crate::operators::{read_operators, read_rules};
 use crate::shapes::Shape;
@@ -18,6 +17,7 @@ use crate::variables::{Variables, read_metric, read_state, read_variables, read_
 use lama_num::Seq;
 use sas_task::{Fact, Parts, Task, What, check};
 use std::alloc::Global;
+use text_lines::Cursor;
 
 /// The most bytes of a text.
 const MOST_BYTES: usize = 268_435_456;

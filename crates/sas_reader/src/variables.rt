@@ -6,7 +6,6 @@ ghost use Rattle.sas_reader.specs.Shapes.{shapes_of};
 ghost use Rattle.sas_reader.specs.TaskText.{version as the_version, metric as the_metric, variable as the_variable, variables_from, variables as the_variables, state as the_state, initial};
 ghost use Rattle.sas_reader.specs.Walks.{fault_of, walk};
 
-use crate::cursor::Cursor;
 use crate::faults::SasError;
 use crate::fields::{
     read_begin, read_count, read_end, read_layer, read_name, read_range, read_three, read_value,
@@ -17,6 +16,7 @@ use crate::shapes::Shape;
 use lama_num::Seq;
 use sas_task::{Variable, What};
 use std::alloc::Global;
+use text_lines::Cursor;
 
 /// The most variables.
 const MOST: u64 = 1_048_576;

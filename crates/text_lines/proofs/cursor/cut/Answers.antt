@@ -1,7 +1,7 @@
 use Rattle.std.proofs.Common.{◌∙◌, sym, arith}
 use Rattle.std.proofs.lemmas.Grind.{common_steps}
-use Rattle.sas_reader.proofs.Cuts.{cut_lines-position, cut_lines-none}
-use Rattle.sas_reader.proofs.cursor.cut.Goals as goal
+use Rattle.text_lines.proofs.Cuts.{cut_lines-position, cut_lines-none}
+use Rattle.text_lines.proofs.cursor.cut.Goals as goal
 
 pub returns-in-Some-clause-lines : goal.returns-in-Some-clause-lines
 returns-in-Some-clause-lines c =

@@ -1,6 +1,6 @@
 use Rattle.std.proofs.Common.{◌≡◌, length}
-use Rattle.sas_reader.specs.Lines.{without_right}
-use Rattle.sas_reader.proofs.cursor.without_right.Given as goal
+use Rattle.text_lines.specs.Lines.{without_right}
+use Rattle.text_lines.proofs.cursor.without_right.Given as goal
 
 abbrev pub invariant-loop-b : goal.invariant-loop-b
 invariant-loop-b l = without_right l.rest ≡ without_right l.line

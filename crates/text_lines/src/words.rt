@@ -1,6 +1,6 @@
 // The words of a line.
 ghost use Rattle.std.specs.Prelude.{◌≡◌, ◌<◌, ◌≤◌, length, MatchOption, [], ◌∷◌, ◌+◌, position, take, drop};
-ghost use Rattle.sas_reader.specs.Lines.{words_of, is_blank as blank_test, FirstIsNoBlank};
+ghost use Rattle.text_lines.specs.Lines.{words_of, is_blank as blank_test, FirstIsNoBlank};
 
 use crate::cursor::is_blank;
 use std::marker::Model;
@@ -13,7 +13,7 @@ pub struct Words<'a> {
 
 impl<'a> Model for Words<'a> {
     ghost use Rattle.std.specs.Prelude.{ℕ, List};
-    ghost use Rattle.sas_reader.specs.Lines.{words_of};
+    ghost use Rattle.text_lines.specs.Lines.{words_of};
 
     ghost Value = { List (List ℕ) };
 

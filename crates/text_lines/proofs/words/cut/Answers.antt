@@ -1,7 +1,7 @@
 use Rattle.std.proofs.Common.{◌≡◌, ◌∙◌, sym, ap, arith}
 use Rattle.std.proofs.lemmas.Grind.{common_steps}
-use Rattle.sas_reader.proofs.Cuts.{words_of-position, words_of-none}
-use Rattle.sas_reader.proofs.words.cut.Goals as goal
+use Rattle.text_lines.proofs.Cuts.{words_of-position, words_of-none}
+use Rattle.text_lines.proofs.words.cut.Goals as goal
 
 pub returns-in-Some : goal.returns-in-Some
 returns-in-Some c =

@@ -1,6 +1,6 @@
 // A place in a text, at the beginning of a line.
 ghost use Rattle.std.specs.Prelude.{◌≡◌, ◌≤◌, ◌<◌, ◌+◌, ◌^◌, length, MatchOption, [], ◌∷◌, position, nat_eq};
-ghost use Rattle.sas_reader.specs.Lines.{Place, cut_lines, lines_of, is_blank as blank_test, is_margin as margin_test, without_left as the_left, without_right as the_right, trimmed as the_trimmed};
+ghost use Rattle.text_lines.specs.Lines.{Place, cut_lines, lines_of, is_blank as blank_test, is_margin as margin_test, without_left as the_left, without_right as the_right, trimmed as the_trimmed};
 
 use std::marker::Model;
 
@@ -14,7 +14,7 @@ pub struct Cursor<'a> {
 
 impl<'a> Model for Cursor<'a> {
     ghost use Rattle.std.specs.Prelude.{◌≤◌, ◌+◌, ◌^◌, length};
-    ghost use Rattle.sas_reader.specs.Lines.{Place, lines_of};
+    ghost use Rattle.text_lines.specs.Lines.{Place, lines_of};
 
     ghost Value = { Place };
 
@@ -115,7 +115,8 @@ fn without_right(line: &[u8]) -> &[u8]
     rest
 }
 
-fn trimmed(line: &[u8]) -> &[u8]
+/// A line without blanks and carriage returns at its ends.
+pub fn trimmed(line: &[u8]) -> &[u8]
     ensures { result.now ≡ the_trimmed line.now }
 {
     without_right(without_left(line))

@@ -2,7 +2,7 @@
 use Rattle.std.proofs.Common.{◌≡◌, sym, refl, ℕ, suc, ◌+◌, ◌<◌, ◌≤◌, List, [], ◌∷◌, length, take, drop, Bool, true, false, cond, nat_eq, nat_lt, Some, None, arith, position}
 use Rattle.std.specs.List.{position_or_len}
 use Rattle.std.proofs.lemmas.Bool.Decides.{nat_tests}
-use Rattle.sas_reader.specs.Lines.{cut_lines, pieces_of, words_of, is_blank, onto, FirstIsNoBlank}
+use Rattle.text_lines.specs.Lines.{cut_lines, pieces_of, words_of, is_blank, onto, FirstIsNoBlank}
 
 abbrev is_feed : ℕ → Bool
 is_feed b = nat_eq b 10
