@@ -1,5 +1,5 @@
 // The core: what a driver needs of all events so far.
-ghost use Rattle.std.specs.Prelude.{◌≡◌, ◌<◌, ◌≤◌, true, List, [], ◌∷◌, ◌++◌, length, IfOk};
+ghost use Rattle.std.specs.Prelude.{◌≡◌, ◌<◌, ◌≤◌, ℕ, true, false, List, [], ◌∷◌, ◌++◌, length, IfOk};
 ghost use Rattle.std.specs.List.{list_all};
 ghost use Rattle.driver_core.specs.Settings.{is_share, share_of, most_plans};
 
@@ -53,8 +53,8 @@ impl Model for Core {
 
 impl Core {
     ghost use Rattle.driver_core.specs.Legal.{IsAllowed};
-    ghost use Rattle.driver_core.specs.Running.{action_of, is_over_after, stop_or};
-    ghost use Rattle.driver_core.specs.Keeping.{bound_of};
+    ghost use Rattle.driver_core.specs.Running.{action_of, is_over_after, stop_or, has_stopped};
+    ghost use Rattle.driver_core.specs.Keeping.{bound_of, kept_costs, is_kept, is_below};
     ghost use Rattle.driver_core.specs.Ends.{code_of};
     ghost use Rattle.driver_core.specs.Standing.{StandsFor};
     ghost use Rattle.driver_core.specs.States.{is_done, accepts, all_codes};
@@ -180,18 +180,24 @@ impl Core {
         self.out_of_time || self.last || self.kept >= self.most() || self.unended == 0
     }
 
-    /// Whether the run is over.
+    /// Whether the run is over. Where it isn't, it hasn't been told to stop, and a plan more may be kept.
     pub fn is_over(&self) -> bool
-        ensures { (events : List Event) → StandsFor self.now events
+        ensures over { (events : List Event) → StandsFor self.now events
             → result ≡ is_over_after self.now.setting events }
+        ensures going { (events : List Event) → StandsFor self.now events
+            → result ≡ false → has_stopped self.now.setting events ≡ false }
+        ensures room { (events : List Event) → StandsFor self.now events
+            → result ≡ false → length (kept_costs self.now.setting events) < most_plans self.now.setting.single }
     {
         self.is_done()
     }
 
-    /// What a plan must cost less than.
+    /// What a plan must cost less than. While the run isn't over, just the plans that do are kept.
     pub fn bound(&self) -> Option<u64>
-        ensures { (events : List Event) → StandsFor self.now events
+        ensures bound { (events : List Event) → StandsFor self.now events
             → result ≡ bound_of self.now.setting events }
+        ensures keeps { (events : List Event) → StandsFor self.now events
+            → is_over_after self.now.setting events ≡ false → (cost : ℕ) → is_kept self.now.setting events cost ≡ is_below result cost }
     {
         self.bound
     }
