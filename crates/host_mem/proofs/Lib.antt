@@ -1,0 +1,5 @@
+pub mod Lookups
+pub mod Places
+pub mod Slots
+pub mod Telling
+pub mod Ticks

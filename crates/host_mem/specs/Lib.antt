@@ -1,0 +1,9 @@
+pub mod Calls
+pub mod Journal
+pub mod Laws
+pub mod Memory
+pub mod Outcomes
+pub mod Says
+pub mod Scripts
+pub mod Sinks
+pub mod Times
