@@ -1,0 +1,5 @@
+pub mod Few
+pub mod Fronts
+pub mod Growth
+pub mod ReadingBack
+pub mod Stripping
