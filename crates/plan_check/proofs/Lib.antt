@@ -1,0 +1,4 @@
+pub mod Choices
+pub mod Good
+pub mod Naming
+pub mod Plans

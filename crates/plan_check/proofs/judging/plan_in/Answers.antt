@@ -1,0 +1,29 @@
+use Rattle.std.proofs.Common.{◌≡◌, ◌∙◌, sym, ap, arith, subst, Err, Ok}
+use Rattle.std.proofs.lemmas.Grind.{common_steps}
+use Rattle.lama_num.specs.Gives.{Fails}
+use Rattle.plan_check.specs.Refusals.{fault_of}
+use Rattle.plan_check.specs.Verdicts.{chosen, plan_in}
+use Rattle.plan_check.proofs.Plans.{plan_unchosen, plan_refused, plan_good}
+use Rattle.plan_check.proofs.judging.plan_in.Goals as goal
+
+pub returns-in_err-reached : goal.returns-in_err-reached
+returns-in_err-reached c =
+    let fails : Fails (fault_of c.in_err-reached.field-0.0) (plan_in c.args.task.now c.args.bound c.args.lines.now) =
+    plan_unchosen c.args.task.now c.args.bound c.args.lines.now (fault_of c.in_err-reached.field-0.0)
+    (subst (λ names. Fails (fault_of c.in_err-reached.field-0.0) (chosen c.args.task.now names)) c.deref.ensures c.in_err-reached.ensures.chosen) in
+    let h = c.from_residual.ensures in
+    grind (arith, common_steps, fails)
+
+pub returns-in_err-compare : goal.returns-in_err-compare
+returns-in_err-compare c =
+    let are : chosen c.args.task.now c.args.lines.now.names ≡ Ok c.choose.new.ops.items = ap (chosen c.args.task.now) (sym c.deref.ensures) ∙ c.in_ok-reached.ensures.chosen in
+    let fault : plan_in c.args.task.now c.args.bound c.args.lines.now ≡ Err c.in_err-compare.field-0.0 =
+    plan_refused c.args.task.now c.args.bound c.args.lines.now c.choose.new.ops.items c.in_ok-reached.reached.goal c.is_unit_cost.result c.in_ok-reached.reached.cost
+    are c.in_ok-reached.ensures.goal c.is_unit_cost.ensures c.in_ok-reached.ensures.cost c.in_err-compare.field-0.0 c.in_err-compare.ensures in
+    grind (arith, common_steps, fault)
+
+pub returns : goal.returns
+returns c =
+    let are : chosen c.args.task.now c.args.lines.now.names ≡ Ok c.choose.new.ops.items = ap (chosen c.args.task.now) (sym c.deref.ensures) ∙ c.in_ok-reached.ensures.chosen in
+    plan_good c.args.task.now c.args.bound c.args.lines.now c.choose.new.ops.items c.in_ok-reached.reached.goal c.is_unit_cost.result c.in_ok-reached.reached.cost
+    are c.in_ok-reached.ensures.goal c.is_unit_cost.ensures c.in_ok-reached.ensures.cost c.in_ok-compare.ensures

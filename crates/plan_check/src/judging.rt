@@ -1,0 +1,117 @@
+// The judge.
+ghost use Rattle.std.specs.Prelude.{◌≡◌, ◌≤◌, length, IfOk};
+ghost use Rattle.lama_num.specs.Gives.{Gives};
+ghost use Rattle.plan_text.specs.PlanLines.{plan_lines_of};
+ghost use Rattle.plan_check.specs.GoodPlans.{IsJudged};
+ghost use Rattle.plan_check.specs.Refusals.{fault_of};
+ghost use Rattle.plan_check.specs.Verdicts.{as_text, compared, plan_in as the_plan_in, plan_of as the_plan, verdict_of};
+
+use crate::choosing::choose;
+use crate::refusals::Refusal;
+use crate::verdicts::{PlanFault, Verdict};
+use lama_num::{NoMemory, Seq};
+use plan_text::{PlanLines, PlanTextError, lines};
+use sas_task::Task;
+use std::alloc::Global;
+
+/// A plan, and what it costs.
+#[derive(Drop)]
+struct Plan {
+    ops: Vec<u32>,
+    cost: u64,
+}
+
+fn read(alloc: Global, bytes: &[u8]) -> Result<PlanLines, Refusal>
+    ensures lines { Gives fault_of (λ lines. lines) result (as_text (plan_lines_of bytes.now)) }
+    ensures few { IfOk result (λ lines. length lines.names ≤ 67108864) }
+{
+    match lines(alloc, bytes) {
+        Ok(lines) => Ok(lines),
+        Err(PlanTextError::Bad(fault)) => Err(Refusal::Bad(PlanFault::Text(fault))),
+        Err(PlanTextError::NoMemory) => Err(Refusal::NoMemory),
+    }
+}
+
+/// Compares what lines tell with what their operators do, and the cost with the bound.
+fn compare(
+    goal: bool,
+    unit: bool,
+    cost: u64,
+    bound: Option<u64>,
+    lines: &PlanLines,
+) -> Result<(), PlanFault>
+    ensures { result ≡ compared goal unit cost bound lines.now }
+{
+    if !goal {
+        return Err(PlanFault::NoGoal);
+    }
+    if lines.unit != unit {
+        return Err(PlanFault::WrongKind);
+    }
+    if lines.cost != cost {
+        return Err(PlanFault::WrongCost { real: cost });
+    }
+    match bound {
+        Some(bound) if cost >= bound => Err(PlanFault::NotCheaper { real: cost, bound }),
+        _ => Ok(()),
+    }
+}
+
+/// The plan that lines tell.
+fn plan_in(
+    alloc: Global,
+    task: &Task,
+    lines: &PlanLines,
+    bound: Option<u64>,
+) -> Result<Plan, Refusal>
+    requires { length lines.now.names ≤ 67108864 }
+    ensures { Gives fault_of (λ plan. (plan.ops.items, plan.cost)) result (the_plan_in task.now bound lines.now) }
+{
+    let mut ops = Vec::new(alloc);
+    let reached = choose(alloc, task, &lines.names, &mut ops)?;
+    compare(
+        reached.goal,
+        task.is_unit_cost(),
+        reached.cost,
+        bound,
+        lines,
+    )?;
+    let cost = reached.cost;
+    Ok(Plan { ops, cost })
+}
+
+#[tactic(auto, unfolding(crate::specs::Verdicts::plan_of))]
+fn plan_of(alloc: Global, task: &Task, bytes: &[u8], bound: Option<u64>) -> Result<Plan, Refusal>
+    ensures { Gives fault_of (λ plan. (plan.ops.items, plan.cost)) result (the_plan task.now bound bytes.now) }
+{
+    let lines = read(alloc, bytes)?;
+    plan_in(alloc, task, &lines, bound)
+}
+
+/// The verdict on the bytes of a plan file.
+///
+/// The bytes may be any. For each name the lowest-numbered operator is chosen that has the name and is
+/// applicable after those before it. Names are found by an index that is made once, so the time
+/// grows with the bytes, the steps and the task, and for a name that several operators have with
+/// their number.
+#[tactic(auto, unfolding(crate::specs::Verdicts::verdict_of))]
+pub fn judge(
+    alloc: Global,
+    task: &Task,
+    bytes: &[u8],
+    bound: Option<u64>,
+) -> Result<Verdict, NoMemory>
+    // The first verdict that applies.
+    ensures exact { IfOk result (λ verdict. verdict ≡ verdict_of task.now bytes.now bound) }
+    // Where it is good, the bytes are the text of a plan of that cost.
+    ensures good { IfOk result (λ verdict. IsJudged task.now bytes.now bound verdict) }
+{
+    match plan_of(alloc, task, bytes, bound) {
+        Ok(plan) => Ok(Verdict::Good {
+            ops: Seq::from(plan.ops),
+            cost: plan.cost,
+        }),
+        Err(Refusal::Bad(fault)) => Ok(Verdict::Bad(fault)),
+        Err(Refusal::NoMemory) => Err(NoMemory),
+    }
+}

@@ -1,0 +1,30 @@
+// What is said of a plan file.
+use lama_num::Seq;
+use plan_text::PlanTextFault;
+
+/// Why a file isn't a plan, or not a wanted one. Steps count from 1.
+#[derive(Clone, Copy, Debug, PartialEq, Eq)]
+pub enum PlanFault {
+    /// The bytes aren't the text of a plan.
+    Text(PlanTextFault),
+    /// No operator has the name of the step.
+    NoOperator { step: u32 },
+    /// No operator of that name is applicable after the steps before.
+    NotApplicable { step: u32 },
+    /// The last state isn't a goal.
+    NoGoal,
+    /// The file tells another kind of cost than the task has.
+    WrongKind,
+    /// The file tells another cost.
+    WrongCost { real: u64 },
+    /// The cost isn't below the bound.
+    NotCheaper { real: u64, bound: u64 },
+}
+
+/// The verdict on a plan file.
+#[derive(Debug, Drop)]
+pub enum Verdict {
+    /// It is a plan, of these operators and this cost.
+    Good { ops: Seq<u32>, cost: u64 },
+    Bad(PlanFault),
+}
