@@ -1,0 +1,12 @@
+pub mod Clearing
+pub mod ClearingLaws
+pub mod Comparing
+pub mod Family
+pub mod FamilyLaws
+pub mod Keeping
+pub mod KeepingLaws
+pub mod Sealing
+pub mod SealingLaws
+pub mod StepLaws
+pub mod Steps
+pub mod TextRests

@@ -1,0 +1,123 @@
+// Sealing: afterwards the folder holds just the plans.
+ghost use Rattle.std.specs.Prelude.{◌≡◌, ◌≢◌, ◌≤◌, ◌<◌, ◌^◌, [], length, slice_get, OnOk, Some, ℕ, false, if◌then◌else◌};
+ghost use Rattle.lama_host.specs.Folder.{Keeps, Changes};
+ghost use Rattle.lama_num.specs.Names.{part_name};
+ghost use Rattle.plan_text.specs.PlanText.{plan_text};
+ghost use Rattle.sas_task.specs.declared.plans.Kept.{Kept};
+ghost use Rattle.plan_manager.specs.Family.{family_name};
+ghost use Rattle.plan_manager.specs.Sealing.{HoldsPlans, IsWritable, AreWritable, Seals, LeftBySealing, Rewrites, SealsBetween};
+ghost use Rattle.plan_manager.specs.Steps.{Leaves};
+
+use crate::clearing::{END, remove_names};
+use crate::comparing::holds;
+use crate::keeping::place;
+use crate::text::{TextRest, cost_text};
+use lama_host::{Failed, Folder};
+use lama_num::NameBuf;
+use sas_task::{Kept, Task};
+
+/// Writes a plan again where its file holds anything else.
+fn rewrite<F: Folder>(
+    folder: &mut F,
+    draft: &str,
+    target: &str,
+    task: &Task,
+    kept: &Kept,
+) -> Result<(), Failed>
+    requires idle { (F.told folder.old).busy ≡ [] }
+    requires apart { target.now ≢ draft.now }
+    requires plan { IsWritable task.now kept.now }
+    ensures keeps { Keeps (F.told folder.old) (F.told folder.new) result }
+    ensures changes { Changes (F.told folder.old) (F.told folder.new) (Rewrites result draft.now target.now (plan_text task.now kept.now.ops)) }
+{
+    let last = cost_text(task.is_unit_cost(), kept.cost);
+    let mut text = TextRest::new(task, &kept.ops, last.as_str().as_bytes());
+    match holds(folder, target, &mut text) {
+        Err(e) => Err(e),
+        Ok(true) => Ok(()),
+        Ok(false) => place(folder, draft, target, task, kept),
+    }
+}
+
+/// The same of a name of the family.
+fn rewrite_name<F: Folder>(
+    folder: &mut F,
+    base: &NameBuf,
+    number: u32,
+    task: &Task,
+    kept: &Kept,
+) -> Result<(), Failed>
+    requires idle { (F.told folder.old).busy ≡ [] }
+    requires short { length base.now ≤ 200 }
+    requires number { number ≤ 9999 }
+    requires plan { IsWritable task.now kept.now }
+    ensures keeps { Keeps (F.told folder.old) (F.told folder.new) result }
+    ensures changes { Changes (F.told folder.old) (F.told folder.new) (Rewrites result (part_name base.now) (family_name base.now number) (plan_text task.now kept.now.ops)) }
+{
+    let draft = base.part();
+    if number == 0 {
+        return rewrite(folder, draft.text(), base.text(), task, kept);
+    }
+    rewrite(
+        folder,
+        draft.text(),
+        base.numbered(number).text(),
+        task,
+        kept,
+    )
+}
+
+/// The number, in the family, of the first plan.
+fn first_number(many: bool) -> u32
+    ensures { result ≡ (if many then 1 else 0) }
+{
+    if many { 1 } else { 0 }
+}
+
+/// Makes the family hold just the kept plans.
+fn seal_family<F: Folder>(
+    folder: &mut F,
+    base: &NameBuf,
+    many: bool,
+    task: &Task,
+    kept: &[Kept],
+) -> Result<(), Failed>
+    requires idle { (F.told folder.old).busy ≡ [] }
+    requires short { length base.now ≤ 200 }
+    requires few { length kept.now ≤ 9999 }
+    requires single { many ≡ false → length kept.now ≤ 1 }
+    requires plans { AreWritable task.now kept.now }
+    ensures keeps { Keeps (F.told folder.old) (F.told folder.new) result }
+    ensures changes { Changes (F.told folder.old) (F.told folder.new) (SealsBetween result base.now many task.now kept.now 0 10000) }
+{
+    let first = first_number(many);
+    remove_names(folder, base, 0, first)?;
+    for (index, plan) in kept.iter().enumerate() {
+        rewrite_name(folder, base, first + index as u32, task, plan)?;
+    }
+    remove_names(folder, base, first + kept.len() as u32, END)
+}
+
+/// Makes the folder hold just the kept plans: with `many` `base.1`, `base.2` and so on, without it the
+/// base itself. What a file holds already isn't written again, and all other names of the family and
+/// `base.part` are taken away.
+pub fn seal<F: Folder>(
+    folder: &mut F,
+    base: &NameBuf,
+    many: bool,
+    task: &Task,
+    kept: &[Kept],
+) -> Result<(), Failed>
+    requires idle { (F.told folder.old).busy ≡ [] }
+    requires short { length base.now ≤ 200 }
+    requires few { length kept.now ≤ 9999 }
+    requires single { many ≡ false → length kept.now ≤ 1 }
+    requires plans { AreWritable task.now kept.now }
+    ensures keeps { Keeps (F.told folder.old) (F.told folder.new) result }
+    ensures changes { Changes (F.told folder.old) (F.told folder.new) (Seals result base.now many task.now kept.now) }
+    ensures leaves { Leaves (F.told folder.old) (F.told folder.new) (LeftBySealing base.now many task.now kept.now) }
+    ensures holds { OnOk result (Leaves (F.told folder.old) (F.told folder.new) (λ _ after. HoldsPlans after base.now many task.now kept.now)) }
+{
+    seal_family(folder, base, many, task, kept)?;
+    folder.remove(base.part().text())
+}
