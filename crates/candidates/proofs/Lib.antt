@@ -1,0 +1,12 @@
+pub mod Adding
+pub mod ChildFiles
+pub mod Entries
+pub mod Few
+pub mod Fronts
+pub mod Gathered
+pub mod OneFile
+pub mod Verdicts
+pub mod Staying
+pub mod Taken
+pub mod Together
+pub mod Writing
