@@ -7,10 +7,8 @@
 ghost use Rattle.std.specs.Prelude.{◌≡◌};
 ghost use Rattle.downward.specs.Status.{status_of};
 
-mod outside;
-
-use crate::outside::{RealClock, RealHost, RealSink};
 use driver_run::{Ended, run};
+use host_real::{RealClock, RealHost, RealSink};
 use std::alloc::Global;
 use std::process::ExitCode;
 use std::rt::Env;
@@ -39,7 +37,7 @@ fn main(rt: HostRuntime) -> ExitCode {
     let Ok(words) = words(&rt) else {
         return ExitCode::from(35);
     };
-    let mut host = RealHost::new(&rt);
+    let mut host = RealHost::new(rt.alloc(), &rt);
     let mut clock = RealClock::new(&rt);
     let mut out = RealSink::new(&rt);
     let ended = run(rt.alloc(), &words, &mut host, &mut clock, &mut out);

@@ -1,5 +1,5 @@
-pub mod Closed
-pub mod Fronts
-pub mod Growth
-pub mod PlanFile
+pub mod Entering
+pub mod Leaving
+pub mod OwnNames
+pub mod Reporting
 pub mod Tells

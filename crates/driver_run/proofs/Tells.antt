@@ -2,19 +2,17 @@
 use Rattle.std.proofs.Common.{◌≡◌, ◌∙◌, ap, refl, ℕ, List, length, true, false, nat_le, Option, Some, None, Result, Ok, Err, IfOk, arith, take, sym, ◌≢◌}
 use Rattle.std.proofs.lemmas.Bool.Decides.{nat_tests}
 use Rattle.std.proofs.lemmas.List.{length-take-le, take_all}
-use Rattle.lama_host.specs.Folder.{Told, IsUntouched}
 use Rattle.sas_task.specs.declared.contents.Parts.{Parts}
 use Rattle.sas_task.specs.declared.refusals.What.TheVariants.{Bytes}
 use Rattle.sas_reader.specs.declared.faults.SasFault.TheVariants.{TooLarge}
 use Rattle.sas_reader.specs.Walks.{task_of, parts_of}
-use Rattle.driver_run.specs.declared.reading.Whole.TheVariants as whole
-use Rattle.driver_run.specs.Leaves.{Leaves}
-use Rattle.driver_run.specs.declared.running.TaskFile.{TaskFile}
-use Rattle.driver_run.specs.declared.running.TaskFile.TheVariants as file_
+use Rattle.candidates.specs.declared.reading.Whole.TheVariants as whole
+use Rattle.driver_run.specs.declared.task_file.TaskFile.{TaskFile}
+use Rattle.driver_run.specs.declared.task_file.TaskFile.TheVariants as file_
 use Rattle.driver_run.specs.declared.report.Why.{Why}
 use Rattle.driver_run.specs.declared.report.Why.TheVariants as why
-use Rattle.driver_run.specs.Reports.{task_in, TellsBytes, TellsFile, TellsTask, Writes}
-use Rattle.driver_run.specs.Whole.{whole_of}
+use Rattle.driver_run.specs.Reports.{task_in, TellsBytes, TellsFile, TellsTask}
+use Rattle.candidates.specs.Whole.{whole_of}
 
 too_long_text : (bytes : List ℕ) → length bytes ≡ 268435457 → task_of bytes ≡ Err (TooLarge Bytes 268435457)
 unfolding task_of parts_of
@@ -50,27 +48,6 @@ told_by_bytes (Some file) bytes found is tells =
     told_of file_.Missing read tells = absurd tells
     told_of (file_.Refused fault) read tells = (file, refl, sym read ∙ tells)
     told_of file_.Failed read tells = absurd tells
-
--- what stands where the plan file was cleared, and then a plan was written or nothing touched
-pub leaves_in_the_end : (before mid now : Told) (text : Option (List ℕ)) → Leaves before mid None → mid.busy ≡ before.busy → Writes mid now text → Leaves before now text
-leaves_in_the_end before mid now None cleared busy still = λ files idle held.
-    let first = cleared files idle held in
-    (first.0, ap (λ t. t.content) still ∙ first.1, first.2)
-leaves_in_the_end before mid now (Some text) cleared busy written = λ files idle held.
-    let first = cleared files idle held in
-    let second = written first.0 (busy ∙ idle) first.1 in (
-      second.0,
-      second.1,
-      record {
-        plan = second.2.plan;
-        others = λ other ne. second.2.others other ne ∙ first.2.others other ne;
-      },
-    )
-
--- after nothing was touched, what is written is written
-pub writes_after : (before mid now : Told) (text : Option (List ℕ)) → IsUntouched before mid → Writes mid now text → Writes before now text
-writes_after before mid now None same still = let again : Told → Told = λ t. record t { faults = now.faults } in still ∙ ap again same
-writes_after before mid now (Some text) same written = λ files idle held. written files (ap (λ t. t.busy) same ∙ idle) (ap (λ t. t.content) same ∙ held)
 
 -- a fact on what was answered, from another
 pub if_ok_weaker : {T E : Type 0} (P Q : T → Type 0) (result : Result T E) → ((x : T) → P x → Q x) → IfOk result P → IfOk result Q

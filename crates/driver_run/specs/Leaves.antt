@@ -1,18 +1,19 @@
--- What is left in a folder.
-use Rattle.std.specs.Prelude.{◌≡◌, ◌≢◌, ℕ, List, Option, Some}
-use Rattle.std.specs.FinMap.{get}
-use Rattle.lama_host.specs.Folder.{Told, Files, WhereTold}
-use Rattle.driver_run.specs.Words.{plan_name}
+-- What a run leaves in the folder.
+use Rattle.std.specs.Prelude.{ℕ, List, false, Option, Some, None}
+use Rattle.lama_host.specs.Folder.{Files}
+use Rattle.sas_task.specs.declared.contents.Parts.{Parts}
+use Rattle.sas_task.specs.declared.plans.Kept.{Kept}
+use Rattle.plan_manager.specs.Clearing.{IsCleared}
+use Rattle.plan_manager.specs.Family.{SameOutside}
+use Rattle.plan_manager.specs.Sealing.{HoldsPlans}
+use Rattle.driver_run.specs.Words.{base_name}
 
--- all names but that of the plan file are as before
-abbrev pub SameElsewhere : Files → Files → Type 0
-SameElsewhere before now = (other : List ℕ) → other ≢ plan_name → get now other ≡ get before other
+-- The folder holds just the plans, or none where there is no task.
+abbrev pub Holds : Option Parts → List Kept → Files → Type 0
+Holds None kept files = IsCleared base_name files
+Holds (Some parts) kept files = HoldsPlans files base_name false parts kept
 
--- the plan file has this text, or isn't there, and all other names are as before
-pub record LeavesPlan (before now : Files) (text : Option (List ℕ)) : Type 0 where
-  pub plan : get now plan_name ≡ text
-  pub others : SameElsewhere before now
-
--- the same of a folder that tells its content
-abbrev pub Leaves : Told → Told → Option (List ℕ) → Type 0
-Leaves before now text = WhereTold before (λ files. (after : Files) × (now.content ≡ Some after) × LeavesPlan files after text)
+-- It does in the end, and all names outside the family and base.part hold what they held.
+pub record LeavesPlans (task : Option Parts) (kept : List Kept) (before after : Files) : Type 0 where
+  pub holds : Holds task kept after
+  pub outside : SameOutside base_name before after

@@ -1,7 +1,5 @@
+pub mod Entries
 pub mod Leaves
-pub mod PlanText
 pub mod Reports
-pub mod Spaces
-pub mod Visits
-pub mod Whole
+pub mod RunEvents
 pub mod Words

@@ -1,27 +1,32 @@
 -- What a report tells.
-use Rattle.std.specs.Prelude.{◌≡◌, ◌≢◌, ℕ, ◌≤◌, List, [], ◌∷◌, length, Bool, true, false, if◌then◌else◌, slice_get, take, Option, Some, None, Result, Ok, Err}
-use Rattle.std.specs.List.{list_any}
+use Rattle.std.specs.Prelude.{◌≡◌, ◌≢◌, ℕ, ◌≤◌, nat_lt, List, [], ◌∷◌, length, map, slice_get, take, Option, Some, None, Result, Ok, Err}
+use Rattle.std.specs.List.{filter_map, range_with_len}
 use Rattle.sas_task.specs.declared.contents.Parts.{Parts}
 use Rattle.sas_task.specs.declared.plans.Kept.{Kept}
 use Rattle.sas_task.specs.Runs.{IsPlan, cost_of}
 use Rattle.sas_reader.specs.declared.faults.SasFault.{SasFault}
 use Rattle.sas_reader.specs.declared.faults.SasFault.TheVariants as fault
 use Rattle.sas_reader.specs.Walks.{task_of}
-use Rattle.lama_host.specs.Folder.{Told, IsUntouched}
+use Rattle.exit_codes.specs.declared.parts.Part.{Part}
+use Rattle.exit_codes.specs.declared.parts.Part.TheVariants as part
+use Rattle.exit_codes.specs.Parts.{codes_of}
+use Rattle.exit_codes.specs.Combined.{combine_of}
+use Rattle.plain_search.specs.Spaces.{IsExhausted}
+use Rattle.plain_search.specs.Visits.{HasNoPlan}
 use Rattle.driver_run.specs.declared.report.Ended.{Ended}
 use Rattle.driver_run.specs.declared.report.Ended.TheVariants as ended
 use Rattle.driver_run.specs.declared.report.Report.{Report}
+use Rattle.candidates.specs.declared.offers.Candidate.{Candidate}
+use Rattle.candidates.specs.declared.offers.Found.{Found}
+use Rattle.candidates.specs.declared.offers.Found.TheVariants as found
 use Rattle.driver_run.specs.declared.report.EntryEnd.{EntryEnd}
 use Rattle.driver_run.specs.declared.report.Outcome.{Outcome}
 use Rattle.driver_run.specs.declared.report.Outcome.TheVariants as outcome
 use Rattle.driver_run.specs.declared.report.Why.{Why}
 use Rattle.driver_run.specs.declared.report.Why.TheVariants as why
-use Rattle.driver_run.specs.declared.report.WordsFault.TheVariants.{Refused}
-use Rattle.driver_run.specs.declared.running.TaskFile.{TaskFile}
-use Rattle.driver_run.specs.declared.running.TaskFile.TheVariants as file
-use Rattle.driver_run.specs.Leaves.{Leaves}
-use Rattle.driver_run.specs.PlanText.{plan_text}
-use Rattle.driver_run.specs.Spaces.{IsExhausted}
+use Rattle.driver_run.specs.declared.report.WordsFault.{WordsFault}
+use Rattle.driver_run.specs.declared.task_file.TaskFile.{TaskFile}
+use Rattle.driver_run.specs.declared.task_file.TaskFile.TheVariants as file
 
 -- a fact on the report, where there is one
 abbrev pub IfDone : Ended → (Report → Type 0) → Type 0
@@ -29,8 +34,8 @@ IfDone (ended.Done report) P = P report
 IfDone ended.NoMemory P = Unit {0}
 
 -- the report on words that aren't accepted
-abbrev pub refusal : Report
-refusal = record { task = None; kept = []; ends = []; why = why.Words Refused; code = 36 }
+abbrev pub refusal : WordsFault → Report
+refusal fault = record { task = None; kept = []; candidates = []; ends = []; start = 0; why = why.Words fault; code = 36 }
 
 -- what the bytes of a task's file give: the task whose text they are, or their first fault; of a file that is too long it is that of as many bytes as are read of it
 abbrev pub task_in : List ℕ → Result Parts SasFault
@@ -53,21 +58,29 @@ pub record IsKept (task : Option Parts) (kept : Kept) : Type 0 where
   pub plan : IsPlan parts kept.ops
   pub cost_is : kept.cost ≡ cost_of parts kept.ops
 
--- each kept plan is one, and there is at most one
+-- its place among the kept plans, where it was kept
+abbrev pub place_of : Found → Option ℕ
+place_of (found.Kept index) = Some index
+place_of (found.Dropped fault) = None
+
+abbrev pub kept_place : Candidate → Option ℕ
+kept_place candidate = place_of candidate.found
+
+-- a plan that the search of this process found
+abbrev pub IsOwn : Candidate → Type 0
+IsOwn candidate = (candidate.entry ≡ 1) × (candidate.file ≡ None)
+
+-- Each kept plan is one, and there is at most one. The candidates are the plans of this process's search, and each of them was kept, in order.
 pub record KeepsPlans (report : Report) : Type 0 where
   pub plans : (k : ℕ) (kept : Kept) → slice_get report.kept k ≡ Some kept → IsKept report.task kept
   pub most : length report.kept ≤ 1
-
--- the text of the one kept plan
-abbrev pub kept_text : Option Parts → List Kept → Option (List ℕ)
-kept_text None kept = None
-kept_text (Some parts) [] = None
-kept_text (Some parts) (kept ∷ more) = Some (plan_text parts kept.ops)
+  pub own : (k : ℕ) (candidate : Candidate) → slice_get report.candidates k ≡ Some candidate → IsOwn candidate
+  pub places : map kept_place report.candidates ≡ map Some (range_with_len 0 (length report.kept))
 
 -- with a plan kept; or with nothing kept and the whole space that can be reached, so that no plan exists
 abbrev pub IsOutcome : Report → Outcome → Type 0
 IsOutcome report outcome.Over = length report.kept ≡ 1
-IsOutcome report (outcome.Unsolvable space) = (report.kept ≡ []) × (parts : Parts) × (report.task ≡ Some parts) × IsExhausted parts space × ((ops : List ℕ) → IsPlan parts ops → ⊥)
+IsOutcome report (outcome.Unsolvable space) = (report.kept ≡ []) × (parts : Parts) × (report.task ≡ Some parts) × IsExhausted parts space × HasNoPlan parts
 
 -- Where the run finished, its one entry ended; else none did, and nothing is kept.
 abbrev pub EndsAs : Report → List EntryEnd → Type 0
@@ -75,17 +88,10 @@ EndsAs report [] = (report.why ≢ why.Finished) × (report.kept ≡ [])
 EndsAs report (end ∷ []) = (report.why ≡ why.Finished) × (end.entry ≡ 1) × IsOutcome report end.outcome
 EndsAs report (end ∷ (second ∷ more)) = ⊥
 
-abbrev pub is_unsolvable : EntryEnd → Bool
-is_unsolvable end = unsolvable end.outcome
-  where
-    unsolvable : Outcome → Bool
-    unsolvable outcome.Over = false
-    unsolvable (outcome.Unsolvable space) = true
-
--- with a plan 0, else 11 where an entry ended Unsolvable
-abbrev pub finished_code : List Kept → List EntryEnd → ℕ
-finished_code [] ends = if list_any is_unsolvable ends then 11 else 12
-finished_code (kept ∷ more) ends = 0
+-- how the entry ended, as a part of the run
+abbrev pub part_of : Outcome → Part
+part_of outcome.Over = part.Over
+part_of (outcome.Unsolvable space) = part.Unsolvable
 
 -- a quantity above its limit, or a derived variable that isn't binary, is what this planner doesn't support
 abbrev pub task_code : SasFault → ℕ
@@ -93,9 +99,9 @@ task_code (fault.TooLarge what count) = 34
 task_code (fault.WideDerived var) = 34
 task_code _ = 33
 
--- the exit code: a function of why the run ended, what it kept and how its entries ended
+-- The exit code: a function of why the run ended, what it kept and how its entries ended.
 abbrev pub code_of : Why → List Kept → List EntryEnd → ℕ
-code_of why.Finished kept ends = finished_code kept ends
+code_of why.Finished kept ends = combine_of (codes_of (map (λ (end : EntryEnd). part_of end.outcome) ends)) (nat_lt 0 (length kept))
 code_of (why.Words fault) kept ends = 36
 code_of (why.NoFile input) kept ends = 36
 code_of (why.Task bad) kept ends = task_code bad
@@ -114,8 +120,3 @@ TellsFile held (file.Task parts) = (bytes : List ℕ) × (held ≡ Some bytes) �
 TellsFile held file.Missing = held ≡ None
 TellsFile held (file.Refused fault) = (bytes : List ℕ) × (held ≡ Some bytes) × (task_in bytes ≡ Err fault)
 TellsFile held file.Failed = Unit {0}
-
--- a plan's text was written, or nothing was touched
-abbrev pub Writes : Told → Told → Option (List ℕ) → Type 0
-Writes before now None = IsUntouched before now
-Writes before now (Some text) = Leaves before now (Some text)

@@ -1,22 +1,57 @@
 -- Which command lines are accepted.
-use Rattle.std.specs.Prelude.{ℕ, List, [], ◌∷◌, length, Bool, false, nat_eq, not, ◌&&◌, if◌then◌else◌, Option, Some, None, codes}
+use Rattle.std.specs.Prelude.{ℕ, List, [], ◌∷◌, length, take, drop, Bool, true, false, nat_eq, nat_le, not, ◌&&◌, ◌||◌, if◌then◌else◌, Option, Some, None, Result, Ok, Err, codes, decimal}
 use Rattle.std.specs.List.{list_all}
 use Rattle.std.specs.Str.{bytes_eq}
+use Rattle.lama_num.specs.Decimals.{decimal_of}
+use Rattle.driver_run.specs.declared.report.WordsFault.{WordsFault}
+use Rattle.driver_run.specs.declared.report.WordsFault.TheVariants.{Refused, NameClash}
 
--- the name of the plan file
-abbrev pub plan_name : List ℕ
-plan_name = codes "sas_plan"
+-- the base of the plan files
+abbrev pub base_name : List ℕ
+base_name = codes "sas_plan"
 
 abbrev pub begins_with_dash : List ℕ → Bool
 begins_with_dash [] = false
 begins_with_dash (b ∷ bs) = nat_eq b 45
 
--- a task's name isn't empty, is no option, holds no NUL byte, and isn't that of the plan file
+-- a task's name isn't empty, is no option, and holds no NUL byte
 abbrev pub is_task_name : List ℕ → Bool
-is_task_name name = not (nat_eq (length name) 0) && (not (begins_with_dash name) && (list_all (λ b. not (nat_eq b 0)) name && not (bytes_eq name plan_name)))
+is_task_name name = not (nat_eq (length name) 0) && (not (begins_with_dash name) && list_all (λ b. not (nat_eq b 0)) name)
 
--- the one word of the line, where it is a task's name
-abbrev pub request_of : List (List ℕ) → Option (List ℕ)
-request_of [] = None
-request_of (name ∷ []) = if is_task_name name then Some name else None
-request_of (name ∷ (second ∷ words)) = None
+-- the decimal of a number from 1 to 9,999, without leading zeros
+abbrev pub is_plan_number : List ℕ → Bool
+is_plan_number digits = numbers (decimal_of digits)
+  where
+    numbers : Option ℕ → Bool
+    numbers None = false
+    numbers (Some n) = nat_le 1 n && (nat_le n 9999 && bytes_eq digits (decimal n))
+
+abbrev pub is_digit : ℕ → Bool
+is_digit b = nat_le 48 b && nat_le b 57
+
+abbrev pub begins_with_digit : List ℕ → Bool
+begins_with_digit [] = false
+begins_with_digit (b ∷ bs) = is_digit b
+
+-- c and a digit, as the files of a child begin behind the dot
+abbrev pub is_of_child : List ℕ → Bool
+is_of_child [] = false
+is_of_child (b ∷ bs) = nat_eq b 99 && begins_with_digit bs
+
+-- what a run's own files have behind their base: nothing; or a dot, and "part", a plan's number, or what begins as a child's
+abbrev pub is_own_ending : List ℕ → Bool
+is_own_ending [] = true
+is_own_ending (b ∷ bs) = nat_eq b 46 && (bytes_eq bs (codes "part") || (is_plan_number bs || is_of_child bs))
+
+-- a name of the run's own files
+abbrev pub is_own_name : List ℕ → List ℕ → Bool
+is_own_name base name = bytes_eq (take (length base) name) base && is_own_ending (drop (length base) name)
+
+abbrev pub task_name : List ℕ → Result (List ℕ) WordsFault
+task_name name = if is_task_name name then (if is_own_name base_name name then Err NameClash else Ok name) else Err Refused
+
+-- the one word of the line, where it is a task's name and none of the run's own; else what is wrong with the words
+abbrev pub line_of : List (List ℕ) → Result (List ℕ) WordsFault
+line_of [] = Err Refused
+line_of (name ∷ []) = task_name name
+line_of (name ∷ (second ∷ words)) = Err Refused

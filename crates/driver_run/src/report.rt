@@ -1,6 +1,7 @@
 // What a run answers.
-use crate::space::Space;
+use candidates::Candidate;
 use lama_num::Seq;
+use plain_search::Space;
 use sas_reader::SasFault;
 use sas_task::{Kept, Task};
 
@@ -11,21 +12,25 @@ pub enum Ended {
     NoMemory,
 }
 
-/// What a run did: the task where it was read, the plans that it kept, how its entries ended, why
-/// the run ended, and the exit code.
+/// What a run did: the task where it was read, the plans that it kept and all candidates for them,
+/// how its entries ended, when and why the run began and ended, and the exit code.
 #[derive(Debug, Drop)]
 pub struct Report {
     pub task: Option<Task>,
     pub kept: Seq<Kept>,
+    pub candidates: Seq<Candidate>,
     pub ends: Seq<EntryEnd>,
+    /// The clock's answer, in milliseconds, as the run began; 0 where the words weren't accepted.
+    pub start: u64,
     pub why: Why,
     pub code: u8,
 }
 
-/// The end of an entry, by its number from 1.
+/// The end of an entry, by its number from 1, and the clock's answer, in milliseconds, as it began.
 #[derive(Debug, Drop)]
 pub struct EntryEnd {
     pub entry: u32,
+    pub began: u64,
     pub outcome: Outcome,
 }
 
@@ -49,7 +54,10 @@ pub enum Why {
 /// What is wrong with the words.
 #[derive(Clone, Copy, Debug, PartialEq, Eq)]
 pub enum WordsFault {
+    /// They aren't the name of one task file.
     Refused,
+    /// The task has the name of a plan file, of the one that is being written, or of a child's.
+    NameClash,
 }
 
 /// A file that the words name.

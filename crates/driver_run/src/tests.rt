@@ -1,10 +1,10 @@
-// Runs over a small folder in memory, and what they leave.
-ghost use Rattle.std.specs.Prelude.{◌≡◌, ◌<◌, ◌↔◌, IfOk, IsTrue, None, length};
+// Runs over a host in memory, and what they leave.
+ghost use Rattle.std.specs.Prelude.{◌≡◌, ◌<◌, ◌↔◌, [], IfOk, IsTrue, length};
+ghost use Rattle.host_mem.specs.Memory.{told_of};
 
-use crate::{
-    Ended, EntryEnd, Input, Outcome, ReadError, Report, Whole, Why, WordsFault, read_whole, run,
-};
+use crate::{Candidate, Ended, EntryEnd, Found, Input, Outcome, Report, Why, WordsFault, run};
 use axiom_eval::Axioms;
+use host_mem::{Fail as Failing, HostCall, MemClock, MemHost, MemSink, named};
 use lama_num::NoMemory;
 use sas_reader::{SasFault, read};
 use sas_task::Task;
@@ -12,10 +12,6 @@ use state_step::Stepper;
 use std::alloc::{AllocError, Global};
 use std::process::Abort;
 use std::test::Fail;
-
-mod small_host;
-
-use small_host::{SmallHost, StillClock, Void};
 
 /// From the first of three places to the last, in two steps of cost 1 or by a jump of cost 5.
 fn three_places() -> &'static str {
@@ -60,27 +56,65 @@ fn words_of(alloc: Global, words: &[&str]) -> Result<Vec<String>, AllocError> {
     Ok(all)
 }
 
-fn report_of(alloc: Global, words: &[&str], host: &mut SmallHost) -> Result<Report, NoMemory>
-    requires { host.old.running ≡ None }
+/// A run at the moments 7 and 9.
+fn report_of(alloc: Global, words: &[&str], host: &mut MemHost) -> Result<Report, NoMemory>
+    requires { (told_of host.old).busy ≡ [] }
 {
     let words = words_of(alloc, words)?;
-    match run(alloc, &words, host, &mut StillClock, &mut Void) {
+    let mut clock = MemClock::new(Vec::from_slice(alloc, &[7, 9])?);
+    let mut out = MemSink::new(alloc, None);
+    match run(alloc, &words, host, &mut clock, &mut out) {
         Ended::Done(report) => Ok(report),
         Ended::NoMemory => Err(NoMemory),
     }
 }
 
-/// A folder with an old plan, another file, and perhaps the task.
-fn folder(alloc: Global, task: Option<&str>) -> Result<SmallHost, AllocError>
-    ensures { IfOk result (λ host. host.running ≡ None) }
+/// A folder with old plans, other files, and perhaps the task, of which one call may fail.
+fn folder(
+    alloc: Global,
+    task: Option<&str>,
+    failing: Option<HostCall>,
+) -> Result<MemHost, AllocError>
+    ensures { IfOk result (λ host. (told_of host).busy ≡ []) }
 {
-    let mut host = SmallHost::new(alloc);
-    host.put("sas_plan", "an old plan")?;
-    host.put("other", "stays")?;
-    if let Some(text) = task {
-        host.put("t.sas", text)?;
+    let mut files = Vec::new(alloc);
+    for name in [
+        "sas_plan",
+        "sas_plan.4",
+        "sas_plan.part",
+        "sas_plan.07",
+        "other",
+    ] {
+        files.push(named(alloc, name, b"old")?)?;
     }
-    Ok(host)
+    if let Some(text) = task {
+        files.push(named(alloc, "t.sas", text.as_bytes())?)?;
+    }
+    let mut fails = Vec::new(alloc);
+    if let Some(call) = failing {
+        fails.push(Failing {
+            call,
+            number: 1,
+            after: false,
+        })?;
+    }
+    Ok(MemHost::new(alloc, files, Vec::new(alloc), fails))
+}
+
+/// Whether a file has this text, or isn't there.
+fn has(host: &MemHost, name: &str, text: Option<&str>) -> bool {
+    match (host.holds(name), text) {
+        (Some(held), Some(text)) => held == text.as_bytes(),
+        (None, None) => true,
+        _ => false,
+    }
+}
+
+/// Whether just the one plan is left of the plan files, and all other files are as before.
+fn is_sealed(host: &MemHost, plan: Option<&str>) -> bool {
+    let gone = has(host, "sas_plan.4", None) && has(host, "sas_plan.part", None);
+    let kept = has(host, "sas_plan.07", Some("old")) && has(host, "other", Some("old"));
+    has(host, "sas_plan", plan) && gone && kept
 }
 
 fn expect_run(
@@ -91,13 +125,12 @@ fn expect_run(
     why: Why,
     plan: Option<&str>,
 ) -> Result<(), NoMemory> {
-    let mut host = folder(alloc, task)?;
+    let mut host = folder(alloc, task, None)?;
     let report = report_of(alloc, &["t.sas"], &mut host)?;
     assert_eq!(rt; report.code, code);
     assert_eq!(rt; report.why, why);
-    assert!(rt; host.holds("sas_plan", plan), "the plan file");
-    assert!(rt; host.holds("other", Some("stays")), "another file");
-    assert!(rt; host.holds("t.sas", task), "the task");
+    assert!(rt; is_sealed(&host, plan), "the folder");
+    assert!(rt; has(&host, "t.sas", task), "the task");
     Ok(())
 }
 
@@ -106,30 +139,21 @@ fn tasks_are_solved(rt: HostRuntime) -> Result<(), Fail> {
     let alloc = rt.alloc();
     let cut_short = Why::Task(SasFault::CutShort { line: 21 });
     let wide = Why::Task(SasFault::WideDerived { var: 0 });
-    let missing = Why::NoFile(Input::Task);
-    expect_run(
-        &rt,
-        alloc,
-        Some(three_places()),
-        0,
-        Why::Finished,
-        Some(jump()),
-    )?;
-    expect_run(&rt, alloc, Some(no_operator()), 11, Why::Finished, None)?;
-    expect_run(&rt, alloc, Some(cut()), 33, cut_short, None)?;
-    expect_run(&rt, alloc, Some(layered()), 34, wide, None)?;
-    expect_run(&rt, alloc, None, 36, missing, None)?;
+    let flip = "(flip)\n; cost = 1 (unit cost)\n";
+    let swapped = "(swap)\n; cost = 1 (unit cost)\n";
+    let rows = [
+        (Some(three_places()), 0, Why::Finished, Some(jump())),
+        (Some(no_operator()), 11, Why::Finished, None),
+        (Some(cut()), 33, cut_short, None),
+        (Some(layered()), 34, wide, None),
+        (None, 36, Why::NoFile(Input::Task), None),
+        (Some(two_layers()), 0, Why::Finished, Some(flip)),
+        (Some(swap()), 0, Why::Finished, Some(swapped)),
+    ];
+    for (task, code, why, plan) in rows {
+        expect_run(&rt, alloc, task, code, why, plan)?;
+    }
     assert_eq!(rt; jump().len(), 33);
-    Ok(())
-}
-
-#[test]
-fn rules_and_conditions_are_heeded(rt: HostRuntime) -> Result<(), Fail> {
-    let alloc = rt.alloc();
-    let flip = Some("(flip)\n; cost = 1 (unit cost)\n");
-    expect_run(&rt, alloc, Some(two_layers()), 0, Why::Finished, flip)?;
-    let swapped = Some("(swap)\n; cost = 1 (unit cost)\n");
-    expect_run(&rt, alloc, Some(swap()), 0, Why::Finished, swapped)?;
     Ok(())
 }
 
@@ -207,86 +231,84 @@ fn is_kept(report: &Report, ops: &[u32], cost: u64) -> bool {
     }
 }
 
-#[test]
-fn reports_tell_plans_and_spaces(rt: HostRuntime) -> Result<(), Fail> {
-    let alloc = rt.alloc();
-    let mut host = folder(alloc, Some(three_places()))?;
-    let report = report_of(alloc, &["t.sas"], &mut host)?;
-    assert!(rt; is_kept(&report, &[2], 5), "the jump");
-    let mut host = folder(alloc, Some(no_operator()))?;
-    let report = report_of(alloc, &["t.sas"], &mut host)?;
-    assert!(rt; report.kept.is_empty());
-    assert!(rt; is_one_state(&report.ends), "the start alone");
-    Ok(())
-}
-
-fn expect_refused(rt: &impl Abort, alloc: Global, words: &[&str]) -> Result<(), NoMemory> {
-    let mut host = folder(alloc, None)?;
-    let report = report_of(alloc, words, &mut host)?;
-    assert_eq!(rt; report.code, 36);
-    assert_eq!(rt; report.why, Why::Words(WordsFault::Refused));
-    assert!(rt;
-        host.holds("sas_plan", Some("an old plan")),
-        "the folder is as it was"
-    );
-    Ok(())
-}
-
-#[test]
-fn words_and_faults(rt: HostRuntime) -> Result<(), Fail> {
-    let alloc = rt.alloc();
-    expect_refused(&rt, alloc, &[])?;
-    expect_refused(&rt, alloc, &[""])?;
-    expect_refused(&rt, alloc, &["-h"])?;
-    expect_refused(&rt, alloc, &["sas_plan"])?;
-    expect_refused(&rt, alloc, &["t.sas", "t.sas"])?;
-    expect_refused(&rt, alloc, &["t\0.sas"])?;
-    let mut host = folder(alloc, Some(three_places()))?;
-    host.fail_reads();
-    let report = report_of(alloc, &["t.sas"], &mut host)?;
-    assert_eq!(rt; report.code, 35);
-    assert_eq!(rt; report.why, Why::Fault);
-    Ok(())
-}
-
-/// What a read of a whole file gives, as a text.
-fn read_text(
-    alloc: Global,
-    host: &mut SmallHost,
-    name: &str,
-    most: u64,
-    want: &[u8],
-) -> &'static str {
-    match read_whole(alloc, host, name, most) {
-        Ok(Whole::Missing) => "missing",
-        Ok(Whole::TooLong) => "too long",
-        Ok(Whole::Bytes(bytes)) => {
-            if bytes.as_slice() == want {
-                "the bytes"
-            } else {
-                "other bytes"
-            }
-        }
-        Err(ReadError::Failed) => "failed",
-        Err(ReadError::NoMemory) => "no memory",
+/// Whether the one entry began at this moment, and was over.
+fn is_over(ends: &[EntryEnd], began: u64) -> bool {
+    match ends {
+        [end] => end.entry == 1 && end.began == began && matches!(&end.outcome, Outcome::Over),
+        _ => false,
     }
 }
 
 #[test]
-fn whole_files_are_read(rt: HostRuntime) -> Result<(), Fail> {
+fn reports_tell_what_happened(rt: HostRuntime) -> Result<(), Fail> {
     let alloc = rt.alloc();
-    let mut host = SmallHost::new(alloc);
-    host.put("five", "12345")?;
-    assert_eq!(rt;
-        read_text(alloc, &mut host, "five", 4, b"12345"),
-        "too long"
-    );
-    assert_eq!(rt;
-        read_text(alloc, &mut host, "five", 5, b"12345"),
-        "the bytes"
-    );
-    assert_eq!(rt; read_text(alloc, &mut host, "six", 5, b""), "missing");
-    host.fail_reads();
-    assert_eq!(rt; read_text(alloc, &mut host, "five", 5, b"12345"), "failed");
+    let mut host = folder(alloc, Some(three_places()), None)?;
+    let report = report_of(alloc, &["t.sas"], &mut host)?;
+    let found = Found::Kept { index: 0 };
+    let candidate = Candidate {
+        entry: 1,
+        file: None,
+        found,
+    };
+    assert!(rt; is_kept(&report, &[2], 5), "the jump");
+    assert!(rt; report.candidates.as_slice() == [candidate].as_slice());
+    assert_eq!(rt; report.start, 7);
+    assert!(rt; is_over(&report.ends, 9));
+    let mut host = folder(alloc, Some(no_operator()), None)?;
+    let report = report_of(alloc, &["t.sas"], &mut host)?;
+    assert!(rt; report.kept.is_empty() && report.candidates.is_empty());
+    assert!(rt; is_one_state(&report.ends), "the start alone");
+    Ok(())
+}
+
+#[test]
+fn words_may_be_refused(rt: HostRuntime) -> Result<(), Fail> {
+    let alloc = rt.alloc();
+    let rows: [(&[&str], Why); 14] = [
+        (&[], Why::Words(WordsFault::Refused)),
+        (&[""], Why::Words(WordsFault::Refused)),
+        (&["-h"], Why::Words(WordsFault::Refused)),
+        (&["t.sas", "t.sas"], Why::Words(WordsFault::Refused)),
+        (&["t\0.sas"], Why::Words(WordsFault::Refused)),
+        (&["sas_plan"], Why::Words(WordsFault::NameClash)),
+        (&["sas_plan.7"], Why::Words(WordsFault::NameClash)),
+        (&["sas_plan.9999"], Why::Words(WordsFault::NameClash)),
+        (&["sas_plan.part"], Why::Words(WordsFault::NameClash)),
+        (&["sas_plan.c1"], Why::Words(WordsFault::NameClash)),
+        (&["sas_plan.cut"], Why::NoFile(Input::Task)),
+        (&["sas_plan.10000"], Why::NoFile(Input::Task)),
+        (&["sas_plan."], Why::NoFile(Input::Task)),
+        (&["sas_pla"], Why::NoFile(Input::Task)),
+    ];
+    for (words, why) in rows {
+        let mut host = folder(alloc, None, None)?;
+        let report = report_of(alloc, words, &mut host)?;
+        assert_eq!(rt; report.code, 36);
+        assert_eq!(rt; report.why, why);
+        let stays = matches!(why, Why::Words(_));
+        assert_eq!(rt; has(&host, "sas_plan", Some("old")), stays);
+    }
+    let mut host = folder(alloc, None, None)?;
+    let report = report_of(alloc, &["sas_plan.07"], &mut host)?;
+    assert_eq!(rt; report.code, 33);
+    Ok(())
+}
+
+#[test]
+fn calls_of_the_folder_may_fail(rt: HostRuntime) -> Result<(), Fail> {
+    let alloc = rt.alloc();
+    for call in [
+        HostCall::ReadSome,
+        HostCall::Create,
+        HostCall::Append,
+        HostCall::Rename,
+        HostCall::Remove,
+    ] {
+        let mut host = folder(alloc, Some(three_places()), Some(call))?;
+        let report = report_of(alloc, &["t.sas"], &mut host)?;
+        assert_eq!(rt; report.code, 35, "{call:?}");
+        assert_eq!(rt; report.why, Why::Fault, "{call:?}");
+        assert!(rt; !has(&host, "sas_plan", Some(jump())), "{call:?}");
+    }
     Ok(())
 }

@@ -1,24 +1,46 @@
-use Rattle.std.proofs.Common.{◌≡◌, ◌≢◌, ◌∙◌, subst, IfOk}
-use Rattle.std.specs.FinMap.{get}
-use Rattle.driver_run.specs.Leaves.{Leaves}
-use Rattle.driver_run.specs.Reports.{Writes, TellsTask, kept_text}
+use Rattle.std.proofs.Common.{◌≡◌, ◌≢◌, ◌∙◌, IfOk}
 use Rattle.driver_run.specs.declared.report.Report.{Report}
 use Rattle.driver_run.specs.declared.report.Why.TheVariants.{Fault}
-use Rattle.driver_run.proofs.Tells.{leaves_in_the_end, if_ok_weaker}
+use Rattle.driver_run.specs.Entries.{IsRunReport, AsksFrom}
+use Rattle.driver_run.specs.Leaves.{LeavesPlans}
+use Rattle.driver_run.specs.Reports.{TellsTask}
+use Rattle.driver_run.specs.RunEvents.{AsksClock}
+use Rattle.plan_manager.specs.Steps.{Leaves}
+use Rattle.driver_run.proofs.Leaving.{cleared_now, plans_cleared, held_after_clearing}
+use Rattle.driver_run.proofs.Reporting.{asked_first}
+use Rattle.driver_run.proofs.Tells.{if_ok_weaker, if_ok_from_both}
 use Rattle.driver_run.proofs.running.run_accepted.Goals as goal
+
+pub run_task-requires-clause-cleared : goal.run_task-requires-clause-cleared
+run_task-requires-clause-cleared g c =
+    let told = g.F.Folder.told in
+    cleared_now (told c.args.folder.now) (told c.clear.new.folder) c.base-base.result c.base-base.ensures c.requires.idle c.in-Ok.ensures.keeps.content c.in-Ok.ensures.cleared
 
 pub returns-in-Ok-clause-files : goal.returns-in-Ok-clause-files
 returns-in-Ok-clause-files g c =
     let told = g.F.Folder.told in
-    if_ok_weaker (λ (report : Report). report.why ≢ Fault → Writes (told c.clear_plan.new.folder) (told c.run_task.new.folder) (kept_text report.task report.kept))
-    (λ (report : Report). report.why ≢ Fault → Leaves (told c.args.folder.now) (told c.run_task.new.folder) (kept_text report.task report.kept))
+    if_ok_weaker (λ (report : Report). report.why ≢ Fault → Leaves (told c.clear.new.folder) (told c.run_task.new.folder) (LeavesPlans report.task report.kept))
+    (λ (report : Report). report.why ≢ Fault → Leaves (told c.args.folder.now) (told c.run_task.new.folder) (LeavesPlans report.task report.kept))
     c.run_task.result
-    (λ report writes finished. leaves_in_the_end (told c.args.folder.now) (told c.clear_plan.new.folder) (told c.run_task.new.folder) (kept_text report.task report.kept) c.in-Ok.ensures.leaves c.in-Ok.ensures.keeps.busy (writes finished))
-    c.run_task.ensures.writes
+    (λ report leaves fine.
+    plans_cleared (told c.args.folder.now) (told c.clear.new.folder) (told c.run_task.new.folder) report.task report.kept c.base-base.result c.base-base.ensures
+    (c.in-Ok.ensures.keeps.busy ∙ c.requires.idle) c.in-Ok.ensures.leaves (leaves fine))
+    c.run_task.ensures.leaves
 
 pub returns-in-Ok-clause-task : goal.returns-in-Ok-clause-task
-returns-in-Ok-clause-task g c files idle held =
-    let first = c.in-Ok.ensures.leaves files idle held in
-    let same : get first.0 c.args.name.now ≡ get files c.args.name.now = first.2.others c.args.name.now c.requires in
-    subst (λ name_holds. IfOk c.run_task.result (λ report. TellsTask name_holds report.task report.why)) same
-    (c.run_task.ensures.task first.0 (c.in-Ok.ensures.keeps.busy ∙ idle) first.1)
+returns-in-Ok-clause-task g c =
+    let told = g.F.Folder.told in
+    held_after_clearing (told c.args.folder.now) (told c.clear.new.folder) c.base-base.result c.args.name.now
+    (λ held. IfOk c.run_task.result (λ report. TellsTask held report.task report.why)) c.base-base.ensures c.requires.name
+    (c.in-Ok.ensures.keeps.busy ∙ c.requires.idle) c.in-Ok.ensures.leaves c.run_task.ensures.task
+
+pub returns-in-Ok-clause-clock : goal.returns-in-Ok-clause-clock
+returns-in-Ok-clause-clock g c =
+    let last = g.C.Clock.last in
+    let answers = g.C.Clock.answers in
+    if_ok_from_both (IsRunReport c.now-start.result) (AsksFrom c.now-start.result (last c.run_task.new.clock) (answers c.now-start.new.self) (answers c.run_task.new.clock))
+    (AsksClock (last c.args.clock.now) (last c.run_task.new.clock) (answers c.args.clock.now) (answers c.run_task.new.clock)) c.run_task.result
+    (λ report is asks.
+    asked_first (last c.args.clock.now) (last c.run_task.new.clock) c.now-start.result (answers c.args.clock.now) (answers c.now-start.new.self) (answers c.run_task.new.clock) report
+    c.now-start.ensures.later c.now-start.ensures.answers is.start asks)
+    c.run_task.ensures.report c.run_task.ensures.clock

@@ -1,0 +1,125 @@
+-- The one entry as events of the core, and what its report tells.
+use Rattle.std.proofs.Common.{◌≡◌, ◌≢◌, ◌∙◌, sym, ap, subst, refl, ℕ, zero, suc, ◌≤◌, List, [], ◌∷◌, ◌++◌, Bool, true, false, slice_get, Some, None, arith}
+use Rattle.std.proofs.lemmas.List.Elements.{All-cons, All-nil}
+use Rattle.std.specs.FinMap.{get}
+use Rattle.lama_host.specs.Folder.{Told, Files}
+use Rattle.lama_num.specs.Names.{part_name}
+use Rattle.plan_manager.specs.Family.{family_name, SameOutside}
+use Rattle.plan_manager.specs.Keeping.{IsPlaced, plan_number}
+use Rattle.plan_manager.specs.Steps.{Leaves}
+use Rattle.driver_core.specs.Standing.{StandsFor}
+use Rattle.driver_core.specs.States.{CoreState}
+use Rattle.driver_run.specs.Words.{base_name}
+use Rattle.sas_task.specs.declared.contents.Parts.{Parts}
+use Rattle.sas_task.specs.declared.plans.Kept.{Kept}
+use Rattle.exit_codes.specs.declared.parts.Part.{Part}
+use Rattle.exit_codes.specs.declared.parts.Part.TheVariants as part
+use Rattle.plain_search.specs.declared.space.Member.{Member}
+use Rattle.plain_search.specs.Spaces.{IsExhausted}
+use Rattle.plain_search.specs.Visits.{IsPlanOf, HasNoPlan}
+use Rattle.driver_core.specs.declared.events.Event.{Event}
+use Rattle.driver_core.specs.declared.events.Event.TheVariants.{Began, Candidate, Ended}
+use Rattle.driver_core.specs.Legal.{IsAllowed, Runs}
+use Rattle.driver_core.specs.Ends.{code_of}
+use Rattle.driver_run.specs.declared.entry.Times.{Times}
+use Rattle.candidates.specs.declared.offers.Candidate.{Candidate as Offered}
+use Rattle.candidates.specs.declared.offers.Found.TheVariants.{Kept as WasKept}
+use Rattle.driver_run.specs.declared.report.EntryEnd.{EntryEnd}
+use Rattle.driver_run.specs.declared.report.Outcome.TheVariants.{Over, Unsolvable}
+use Rattle.driver_run.specs.RunEvents.{set_at}
+use Rattle.driver_run.specs.Entries.{IsSolved}
+
+-- the entry may begin, offer a plan, and end
+pub may_begin : (start began : ℕ) → start ≤ began → IsAllowed (set_at start) [] (Began 1 began)
+may_begin start began later = record { first = omega arith; last = omega arith; new = refl; timely = All-cons (λ earlier. earlier ≤ began) start [] later (All-nil (λ earlier. earlier ≤ began)); going = refl }
+
+pub may_offer : (start began cost : ℕ) → IsAllowed (set_at start) (Began 1 began ∷ []) (Candidate 1 (Some cost))
+may_offer start began cost = record { runs = record { begun = refl; unended = refl }; going = refl }
+
+pub runs_begun : (began : ℕ) → Runs (Began 1 began ∷ []) 1
+runs_begun began = record { begun = refl; unended = refl }
+
+pub runs_offered : (began cost : ℕ) → Runs (Began 1 began ∷ Candidate 1 (Some cost) ∷ []) 1
+runs_offered began cost = record { begun = refl; unended = refl }
+
+-- a core that had no event, and then the beginning
+pub stands_begun : (core next : CoreState) (start began : ℕ) → core.setting ≡ set_at start → StandsFor core [] → start ≤ began →
+    ((events : List Event) → StandsFor core events → IsAllowed core.setting events (Began 1 began) → StandsFor next (events ++ Began 1 began ∷ [])) →
+    StandsFor next (Began 1 began ∷ [])
+stands_begun core next start began set stands later step = step [] stands (subst (λ s. IsAllowed s [] (Began 1 began)) (sym set) (may_begin start began later))
+
+-- and then a plan
+pub stands_offered : (core next : CoreState) (start began cost : ℕ) → core.setting ≡ set_at start → StandsFor core (Began 1 began ∷ []) →
+    ((events : List Event) → StandsFor core events → IsAllowed core.setting events (Candidate 1 (Some cost)) → StandsFor next (events ++ Candidate 1 (Some cost) ∷ [])) →
+    StandsFor next (Began 1 began ∷ Candidate 1 (Some cost) ∷ [])
+stands_offered core next start began cost set stands step = step (Began 1 began ∷ []) stands (subst (λ s. IsAllowed s (Began 1 began ∷ []) (Candidate 1 (Some cost))) (sym set) (may_offer start began cost))
+
+-- a plan that was placed under the base changes nothing outside
+pub kept_outside : (before now : Told) (base text : List ℕ) → base ≡ base_name → Leaves before now (IsPlaced (part_name base) (family_name base (plan_number false 1)) text) → Leaves before now (SameOutside base_name)
+kept_outside before now base text is placed = λ files idle held.
+    let left = placed files idle held in
+    (left.0, left.1, subst (λ b. SameOutside b files left.0) is (λ name other part. left.2.others name part (other 0 (omega arith))))
+
+-- the one element of a list of one
+only : {A : Type 0} (x y : A) (k : ℕ) → slice_get (x ∷ []) k ≡ Some y → x ≡ y
+only x y zero at = let s : Some x ≡ Some y = at in cc
+only x y (suc k) at = let s : None ≡ Some y = at in cc
+
+none_at : {A : Type 0} (y : A) (k : ℕ) → slice_get [] k ≡ Some y → ⊥
+none_at y k at = let s : None ≡ Some y = at in cc
+
+-- with its plan kept
+pub solved_by_plan : (parts : Parts) (times : Times) (ops : List ℕ) (cost code : ℕ) → IsPlanOf parts ops cost → times.start ≤ times.began →
+    code ≡ code_of (set_at times.start) (Began 1 times.began ∷ Candidate 1 (Some cost) ∷ Ended 1 part.Over false ∷ []) →
+    IsSolved parts times (record {
+      kept = record { entry = 1; ops = ops; cost = cost } ∷ [];
+      candidates = record { entry = 1; file = None; found = WasKept 0 } ∷ [];
+      ends = record { entry = 1; began = times.began; outcome = Over } ∷ [];
+      code = code;
+    })
+solved_by_plan parts times ops cost code plan later is = record {
+  plans = record {
+    plans = λ k kept at. rw (← (only (record { entry = 1; ops = ops; cost = cost }) kept k at)) (record { parts = parts; of_task = refl; by_entry = refl; plan = plan.plan; cost_is = plan.is_sum });
+    most = omega arith;
+    own = λ k candidate at. rw (← (only (record { entry = 1; file = None; found = WasKept 0 }) candidate k at)) (refl, refl);
+    places = refl;
+  };
+  ends = (refl, refl, refl);
+  events = record {
+    legal = (may_begin times.start times.began later, (may_offer times.start times.began cost, (runs_offered times.began cost, tt)));
+    kept = refl;
+    over = λ finished. refl;
+    code = λ finished. is;
+  };
+  code = is;
+  began = refl;
+  writable = λ k kept at. rw (← (only (record { entry = 1; ops = ops; cost = cost }) kept k at)) (record { cost = plan.is_sum; few = plan.few });
+}
+
+-- with the whole space
+pub solved_by_space : (parts : Parts) (times : Times) (space : List Member) (code : ℕ) → IsExhausted parts space → HasNoPlan parts → times.start ≤ times.began →
+    code ≡ code_of (set_at times.start) (Began 1 times.began ∷ Ended 1 part.Unsolvable true ∷ []) →
+    IsSolved parts times (record {
+      kept = [];
+      candidates = [];
+      ends = record { entry = 1; began = times.began; outcome = Unsolvable space } ∷ [];
+      code = code;
+    })
+solved_by_space parts times space code whole none later is = record {
+  plans = record {
+    plans = λ k kept at. absurd (none_at kept k at);
+    most = omega arith;
+    own = λ k candidate at. absurd (none_at candidate k at);
+    places = refl;
+  };
+  ends = (refl, refl, (refl, parts, refl, whole, none));
+  events = record {
+    legal = (may_begin times.start times.began later, (runs_begun times.began, tt));
+    kept = refl;
+    over = λ finished. refl;
+    code = λ finished. is;
+  };
+  code = is;
+  began = refl;
+  writable = λ k kept at. absurd (none_at kept k at);
+}

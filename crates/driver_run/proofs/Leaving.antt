@@ -1,0 +1,107 @@
+-- What stands in the folder from call to call.
+use Rattle.std.proofs.Common.{◌≡◌, ◌≢◌, ◌∙◌, sym, ap, subst, refl, ℕ, zero, suc, ◌≤◌, List, [], Bool, true, false, Option, Some, None, is_some, Result, Ok, Err, OnOk, arith}
+use Rattle.std.specs.FinMap.{get}
+use Rattle.lama_host.specs.Folder.{Told, Files, WhereTold, IsUntouched}
+use Rattle.lama_num.specs.Names.{part_name}
+use Rattle.sas_task.specs.declared.contents.Parts.{Parts}
+use Rattle.sas_task.specs.declared.plans.Kept.{Kept}
+use Rattle.plan_manager.specs.Clearing.{IsCleared, LeftByClearing}
+use Rattle.plan_manager.specs.Family.{family_name, IsNoPlan, SameOutside}
+use Rattle.plan_manager.specs.FamilyLaws.{family_zero, family_numbered}
+use Rattle.plan_manager.specs.Sealing.{HoldsPlans, LeftBySealing}
+use Rattle.plan_manager.specs.Steps.{Leaves}
+use Rattle.driver_run.specs.Leaves.{Holds, LeavesPlans}
+use Rattle.driver_run.specs.Words.{is_own_name, base_name}
+use Rattle.driver_run.proofs.OwnNames.{own_base, own_part, own_number}
+
+same_files : (x y : Files) → Some x ≡ Some y → x ≡ y
+same_files x y e = cc
+
+-- two facts on what was left
+left_both : (before now : Told) (P Q : Files → Files → Type 0) → Leaves before now P → Leaves before now Q → Leaves before now (λ files after. P files after × Q files after)
+left_both before now P Q first second = λ files idle held.
+    let one = first files idle held in
+    let two = second files idle held in
+    (one.0, one.1, (one.2, subst (Q files) (same_files two.0 one.0 (sym two.1 ∙ one.1)) two.2))
+
+-- a folder that was sealed
+pub sealed_plans : (before now : Told) (parts : Parts) (kept : List Kept) (base : List ℕ) → base ≡ base_name →
+    Leaves before now (LeftBySealing base false parts kept) → Leaves before now (λ files after. HoldsPlans after base false parts kept) → Leaves before now (LeavesPlans (Some parts) kept)
+sealed_plans before now parts kept base is left holds = λ files idle held.
+    let both = left_both before now _ _ left holds files idle held in (
+      both.0,
+      both.1,
+      record {
+        holds = subst (λ b. HoldsPlans both.0 b false parts kept) is both.2.1;
+        outside = subst (λ b. SameOutside b files both.0) is both.2.0.outside;
+      },
+    )
+
+-- what was left after a change inside alone
+pub plans_after : (before mid now : Told) (task : Option Parts) (kept : List Kept) → mid.busy ≡ [] → Leaves before mid (SameOutside base_name) → Leaves mid now (LeavesPlans task kept) → Leaves before now (LeavesPlans task kept)
+plans_after before mid now task kept quiet first second = λ files idle held.
+    let one = first files idle held in
+    let two = second one.0 quiet one.1 in (
+      two.0,
+      two.1,
+      record {
+        holds = two.2.holds;
+        outside = λ name other part. two.2.outside name other part ∙ one.2 name other part;
+      },
+    )
+
+-- after nothing was touched
+pub plans_untouched : (before mid now : Told) (task : Option Parts) (kept : List Kept) → IsUntouched before mid → Leaves mid now (LeavesPlans task kept) → Leaves before now (LeavesPlans task kept)
+plans_untouched before mid now task kept same second = λ files idle held. second files (ap (λ t. t.busy) same ∙ idle) (ap (λ t. t.content) same ∙ held)
+
+-- after clearing
+pub plans_cleared : (before mid now : Told) (task : Option Parts) (kept : List Kept) (base : List ℕ) → base ≡ base_name → mid.busy ≡ [] → Leaves before mid (LeftByClearing base) → Leaves mid now (LeavesPlans task kept) → Leaves before now (LeavesPlans task kept)
+plans_cleared before mid now task kept base is quiet first second =
+    plans_after before mid now task kept quiet
+    (λ files idle held. let one = first files idle held in (one.0, one.1, subst (λ b. SameOutside b files one.0) is one.2.outside))
+    second
+
+-- a cleared folder, where nothing was touched after that
+pub still_cleared : (before now : Told) (kept : List Kept) → IsUntouched before now → Leaves before before (λ first files. IsCleared base_name files) → Leaves before now (LeavesPlans None kept)
+still_cleared before now kept same cleared = λ files idle held.
+    let c = cleared files idle held in (
+      files,
+      ap (λ t. t.content) same ∙ held,
+      record {
+        holds = subst (IsCleared base_name) (same_files c.0 files (sym c.1 ∙ held)) c.2;
+        outside = λ name other part. refl;
+      },
+    )
+
+told_before : (before now : Option Files) (files : Files) → is_some now ≡ is_some before → now ≡ Some files → (first : Files) × (before ≡ Some first)
+told_before None now files same held = let k : true ≡ false = rw held at same in cc
+told_before (Some first) now files same held = (first, refl)
+
+-- what clearing left is seen afterwards
+pub cleared_now : (before now : Told) (base : List ℕ) → base ≡ base_name → before.busy ≡ [] → is_some now.content ≡ is_some before.content → Leaves before now (λ first files. IsCleared base files) → Leaves now now (λ first files. IsCleared base_name files)
+cleared_now before now base is quiet tells cleared = λ files idle held.
+    let was = told_before before.content now.content files tells held in
+    let c = cleared was.0 quiet was.1 in
+    (files, held, subst (λ b. IsCleared b files) is (subst (IsCleared base) (same_files c.0 files (sym c.1 ∙ held)) c.2))
+
+name_apart : (base name other : List ℕ) → is_own_name base name ≡ false → is_own_name base other ≡ true → name ≢ other
+name_apart base name other none own same = let k : false ≡ true = sym none ∙ ap (is_own_name base) same ∙ own in cc
+
+-- a name that isn't one of the run's own
+pub not_own : (base name : List ℕ) → is_own_name base name ≡ false → IsNoPlan base name
+not_own base name none zero most same = name_apart base name base none (own_base base) (same ∙ family_zero base)
+not_own base name none (suc k) most same = name_apart base name _ none (own_number base (suc k) (omega arith) most) (same ∙ family_numbered base (suc k) (omega arith))
+
+pub not_part : (base name : List ℕ) → is_own_name base name ≡ false → name ≢ part_name base
+not_part base name none = name_apart base name (part_name base) none (own_part base)
+
+-- such a name holds after clearing what it held
+pub held_after_clearing : (before now : Told) (base name : List ℕ) (P : Option (List ℕ) → Type 0) → base ≡ base_name → is_own_name base_name name ≡ false → now.busy ≡ [] → Leaves before now (LeftByClearing base) →
+    WhereTold now (λ files. P (get files name)) → WhereTold before (λ files. P (get files name))
+held_after_clearing before now base name P is none quiet left told = λ files idle held.
+    let one = left files idle held in
+    let own : is_own_name base name ≡ false = rw is none in
+    subst P (one.2.outside name (not_own base name own) (not_part base name own)) (told one.0 quiet one.1)
+
+pub held_untouched : (before now : Told) (P : Files → Type 0) → IsUntouched before now → WhereTold now P → WhereTold before P
+held_untouched before now P same told = λ files idle held. told files (ap (λ t. t.busy) same ∙ idle) (ap (λ t. t.content) same ∙ held)

@@ -1,6 +1,0 @@
-use Rattle.std.proofs.Common.{arith}
-use Rattle.driver_run.proofs.Fronts.{front_long}
-use Rattle.driver_run.proofs.reading.read_whole.Goals as goal
-
-pub returns-clause-exact : goal.returns-clause-exact
-returns-clause-exact g c files idle held = front_long _ _ _ (c.loop-folder.invariant.front files idle held) (omega arith)

@@ -1,0 +1,285 @@
+// The one entry of a run: a search of this process.
+ghost use Rattle.std.specs.Prelude.{◌≡◌, ◌≢◌, ◌≤◌, [], ◌∷◌, ◌++◌, ℕ, List, IfOk, IfSome, Some, None};
+ghost use Rattle.lama_host.specs.Folder.{Rose};
+ghost use Rattle.plan_manager.specs.Family.{SameOutside};
+ghost use Rattle.plan_manager.specs.Steps.{Leaves};
+ghost use Rattle.sas_task.specs.declared.contents.Parts.{Parts as TheParts};
+ghost use Rattle.plain_search.specs.Spaces.{IsExhausted};
+ghost use Rattle.plain_search.specs.Visits.{IsPlanOf, HasNoPlan};
+ghost use Rattle.driver_core.specs.declared.events.Event.{Event as TheEvent};
+ghost use Rattle.driver_core.specs.Ends.{code_of as code_by_events};
+ghost use Rattle.driver_core.specs.Legal.{Runs};
+ghost use Rattle.driver_core.specs.Standing.{StandsFor};
+ghost use Rattle.driver_run.specs.Leaves.{LeavesPlans};
+ghost use Rattle.driver_run.specs.RunEvents.{set_at};
+ghost use Rattle.driver_run.specs.Entries.{IsSolved, IsEntryReport, AsksOnce};
+ghost use Rattle.driver_run.specs.Words.{base_name};
+
+use crate::report::{EntryEnd, Outcome, Report, Why};
+use candidates::{Candidate, Found};
+use driver_core::{Core, Event};
+use exit_codes::Part;
+use lama_host::{Clock, Failed, Folder};
+use lama_num::{NameBuf, NoMemory, Seq};
+use plain_search::{Found as Searched, Space, search};
+use plan_manager::{keep, seal};
+use sas_task::{Kept, Task};
+use std::alloc::Global;
+
+/// The number of the one entry.
+const ENTRY: u32 = 1;
+
+/// When the run and its entry began, as the clock answered.
+#[derive(Clone, Copy, Debug)]
+pub struct Times {
+    pub start: u64,
+    pub began: u64,
+}
+
+/// What came of the entry: the plans that were kept, the candidates, the entry's end, and the code.
+#[derive(Debug, Drop)]
+pub struct Solved {
+    pub kept: Seq<Kept>,
+    pub candidates: Seq<Candidate>,
+    pub ends: Seq<EntryEnd>,
+    pub code: u8,
+}
+
+/// A list of one.
+fn one<T: Drop>(alloc: Global, item: T) -> Result<Seq<T>, NoMemory>
+    ensures { IfOk result (λ items. items ≡ item ∷ []) }
+{
+    let mut items = Seq::new(alloc);
+    items.push(item)?;
+    Ok(items)
+}
+
+/// The report of a run that no entry ended.
+pub fn stopped(alloc: Global, task: Option<Task>, start: u64, why: Why, code: u8) -> Report
+    ensures { result ≡ record { task = task; kept = []; candidates = []; ends = []; start = start; why = why; code = code } }
+{
+    Report {
+        task,
+        kept: Seq::new(alloc),
+        candidates: Seq::new(alloc),
+        ends: Seq::new(alloc),
+        start,
+        why,
+        code,
+    }
+}
+
+/// The end of the entry, as a list.
+fn end_of(alloc: Global, times: Times, outcome: Outcome) -> Result<Seq<EntryEnd>, NoMemory>
+    ensures { IfOk result (λ ends. ends ≡ record { entry = 1; began = times.began; outcome = outcome } ∷ []) }
+{
+    let end = EntryEnd {
+        entry: ENTRY,
+        began: times.began,
+        outcome,
+    };
+    one(alloc, end)
+}
+
+/// The core, as the one entry has begun.
+fn begin(alloc: Global, times: Times) -> Result<Core, NoMemory>
+    requires { times.start ≤ times.began }
+    ensures setting { IfOk result (λ core. core.setting ≡ set_at times.start) }
+    ensures stands { IfOk result (λ core. StandsFor core (TheEvent.Began 1 times.began ∷ [])) }
+{
+    let mut core = Core::new(alloc, &[1], times.start, None, None, false)?;
+    core.step(Event::Began {
+        entry: ENTRY,
+        moment: times.began,
+    });
+    Ok(core)
+}
+
+/// Tells the core of a plan.
+fn offer(core: &mut Core, cost: u64)
+    ensures setting { core.new.setting ≡ core.old.setting }
+    ensures stands { (start began : ℕ) → core.old.setting ≡ set_at start → StandsFor core.old (TheEvent.Began 1 began ∷ []) →
+        StandsFor core.new (TheEvent.Began 1 began ∷ TheEvent.Candidate 1 (Some cost) ∷ []) }
+{
+    core.step(Event::Candidate {
+        entry: ENTRY,
+        cost: Some(cost),
+    });
+}
+
+/// Tells the core that the entry ended, and gives the code of the run.
+fn end(core: &mut Core, part: Part, last: bool) -> u8
+    ensures { (events : List TheEvent) → StandsFor core.old events → Runs events 1 →
+        result ≡ code_by_events core.old.setting (events ++ TheEvent.Ended 1 part last ∷ []) }
+{
+    core.step(Event::Ended {
+        entry: ENTRY,
+        part,
+        last,
+    });
+    core.code()
+}
+
+/// Keeps the plan that the entry found, which is the first; None where a call of the folder failed.
+/// All memory is taken before the folder is touched.
+fn keep_plan<F: Folder>(
+    alloc: Global,
+    folder: &mut F,
+    base: &NameBuf,
+    task: &Task,
+    core: Core,
+    times: Times,
+    ops: Seq<u32>,
+    cost: u64,
+) -> Result<Option<Solved>, NoMemory>
+    requires idle { (F.told folder.old).busy ≡ [] }
+    requires base { base.now ≡ base_name }
+    requires plan { IsPlanOf task.now ops cost }
+    requires time { times.start ≤ times.began }
+    requires setting { core.setting ≡ set_at times.start }
+    requires stands { StandsFor core (TheEvent.Began 1 times.began ∷ []) }
+    ensures busy { IfOk result (λ _. (F.told folder.new).busy ≡ []) }
+    ensures later { (F.told folder.old).faults ≤ (F.told folder.new).faults }
+    ensures fault { IfOk result (λ solved. solved ≡ None → Rose (F.told folder.old).faults (F.told folder.new).faults) }
+    ensures outside { IfOk result (λ solved. solved ≢ None → Leaves (F.told folder.old) (F.told folder.new) (SameOutside base_name)) }
+    ensures solved { IfOk result (λ solved. IfSome solved (IsSolved task.now times)) }
+{
+    let mut core = core;
+    let kept = one(
+        alloc,
+        Kept {
+            entry: ENTRY,
+            ops,
+            cost,
+        },
+    )?;
+    let found = Found::Kept { index: 0 };
+    let candidates = one(
+        alloc,
+        Candidate {
+            entry: ENTRY,
+            file: None,
+            found,
+        },
+    )?;
+    let ends = end_of(alloc, times, Outcome::Over)?;
+    offer(&mut core, cost);
+    match keep(folder, base, false, 1, task, &kept[0]) {
+        Err(Failed) => Ok(None),
+        Ok(()) => {
+            let code = end(&mut core, Part::Over, false);
+            Ok(Some(Solved {
+                kept,
+                candidates,
+                ends,
+                code,
+            }))
+        }
+    }
+}
+
+/// The entry found the whole space, and no plan.
+fn give_up(alloc: Global, core: Core, times: Times, space: Space) -> Result<Solved, NoMemory>
+    requires time { times.start ≤ times.began }
+    requires setting { core.setting ≡ set_at times.start }
+    requires stands { StandsFor core (TheEvent.Began 1 times.began ∷ []) }
+    ensures solved { (parts : TheParts) → IsExhausted parts space → HasNoPlan parts → IfOk result (IsSolved parts times) }
+{
+    let mut core = core;
+    let ends = end_of(alloc, times, Outcome::Unsolvable { space })?;
+    let code = end(&mut core, Part::Unsolvable, true);
+    Ok(Solved {
+        kept: Seq::new(alloc),
+        candidates: Seq::new(alloc),
+        ends,
+        code,
+    })
+}
+
+/// Searches, and keeps the plan where there is one; None where a call of the folder failed.
+fn solve<F: Folder>(
+    alloc: Global,
+    folder: &mut F,
+    base: &NameBuf,
+    task: &Task,
+    times: Times,
+) -> Result<Option<Solved>, NoMemory>
+    requires idle { (F.told folder.old).busy ≡ [] }
+    requires base { base.now ≡ base_name }
+    requires time { times.start ≤ times.began }
+    ensures busy { IfOk result (λ _. (F.told folder.new).busy ≡ []) }
+    ensures later { (F.told folder.old).faults ≤ (F.told folder.new).faults }
+    ensures fault { IfOk result (λ solved. solved ≡ None → Rose (F.told folder.old).faults (F.told folder.new).faults) }
+    ensures outside { IfOk result (λ solved. solved ≢ None → Leaves (F.told folder.old) (F.told folder.new) (SameOutside base_name)) }
+    ensures solved { IfOk result (λ solved. IfSome solved (IsSolved task.now times)) }
+{
+    let core = begin(alloc, times)?;
+    match search(alloc, task)? {
+        Searched::Plan { ops, cost } => {
+            keep_plan(alloc, folder, base, task, core, times, ops, cost)
+        }
+        Searched::Unsolvable(space) => Ok(Some(give_up(alloc, core, times, space)?)),
+    }
+}
+
+/// Seals the folder, and makes the report.
+fn finish<F: Folder>(
+    alloc: Global,
+    folder: &mut F,
+    base: &NameBuf,
+    task: Task,
+    times: Times,
+    solved: Solved,
+) -> Report
+    requires idle { (F.told folder.old).busy ≡ [] }
+    requires base { base.now ≡ base_name }
+    requires solved { IsSolved task times solved }
+    ensures later { (F.told folder.old).faults ≤ (F.told folder.new).faults }
+    ensures fault { result.why ≡ Why.Fault → Rose (F.told folder.old).faults (F.told folder.new).faults }
+    ensures leaves { result.why ≢ Why.Fault → Leaves (F.told folder.old) (F.told folder.new) (LeavesPlans (Some task) result.kept) }
+    ensures report { IsEntryReport task times result }
+{
+    let Solved {
+        kept,
+        candidates,
+        ends,
+        code,
+    } = solved;
+    match seal(folder, base, false, &task, &kept) {
+        Err(Failed) => stopped(alloc, Some(task), times.start, Why::Fault, 35),
+        Ok(()) => Report {
+            task: Some(task),
+            kept,
+            candidates,
+            ends,
+            start: times.start,
+            why: Why::Finished,
+            code,
+        },
+    }
+}
+
+/// Runs the one entry, and seals the folder.
+pub fn run_entry<F: Folder, C: Clock>(
+    alloc: Global,
+    folder: &mut F,
+    clock: &mut C,
+    base: &NameBuf,
+    task: Task,
+    start: u64,
+) -> Result<Report, NoMemory>
+    requires idle { (F.told folder.old).busy ≡ [] }
+    requires base { base.now ≡ base_name }
+    requires start { start ≤ C.last clock.old }
+    ensures later { (F.told folder.old).faults ≤ (F.told folder.new).faults }
+    ensures fault { IfOk result (λ report. report.why ≡ Why.Fault → Rose (F.told folder.old).faults (F.told folder.new).faults) }
+    ensures leaves { IfOk result (λ report. report.why ≢ Why.Fault → Leaves (F.told folder.old) (F.told folder.new) (LeavesPlans report.task report.kept)) }
+    ensures report { IfOk result (λ report. (began : ℕ) × IsEntryReport task (record { start = start; began = began }) report × AsksOnce (C.last clock.old) (C.last clock.new) (C.answers clock.old) (C.answers clock.new) began) }
+{
+    let began = clock.now();
+    let times = Times { start, began };
+    match solve(alloc, folder, base, &task, times)? {
+        None => Ok(stopped(alloc, Some(task), start, Why::Fault, 35)),
+        Some(solved) => Ok(finish(alloc, folder, base, task, times, solved)),
+    }
+}
