@@ -1,0 +1,157 @@
+-- What is made by where each variable's facts begin is what the task's facts by number are.
+use Rattle.std.specs.Prelude.{◌≡◌, ℕ, ◌+◌, ◌<◌, suc, List, [], ◌∷◌, ◌++◌, length, Bool, true, false, ◌&&◌, nat_lt, map, filter, slice_index, if◌then◌else◌}
+use Rattle.std.specs.List.{list_all, enumerate_from, flat_map}
+use Rattle.std.proofs.Common.{arith, refl, ap, ◌∙◌}
+use Rattle.std.proofs.lemmas.Bool.Decides.{nat_tests}
+use Rattle.lama_num.specs.Lists.{both}
+use Rattle.sas_task.specs.Costs.{adjusted_cost}
+use Rattle.sas_task.specs.WellFormed.{IsWellFormed, is_fact, is_derived, fact_count}
+use Rattle.sas_task.specs.Laws.{init-state, goal-facts}
+use Rattle.sas_task.specs.declared.contents.CostKind.{CostKind}
+use Rattle.sas_task.specs.declared.contents.Fact.{Fact}
+use Rattle.sas_task.specs.declared.contents.Variable.{Variable}
+use Rattle.sas_task.specs.declared.contents.Effect.{Effect}
+use Rattle.sas_task.specs.declared.contents.Operator.{Operator}
+use Rattle.sas_task.specs.declared.contents.Rule.{Rule}
+use Rattle.sas_task.specs.declared.contents.Parts.{Parts}
+use Rattle.relaxed_task.specs.declared.unary.Unary.{Unary}
+use Rattle.relaxed_task.specs.Numbers.{number_by, number_of, numbers_of, fact_at, distinct}
+use Rattle.relaxed_task.specs.NumberLaws.{number_by-is, number_below, is_numbered, state_fact}
+use Rattle.relaxed_task.specs.Unaries.{unaries_of, unaries_of_operator, unary_of_effect, unary_of_rule}
+use Rattle.relaxed_task.specs.Reached.{defaults_of}
+use Rattle.relaxed_task.specs.Relaxations.{IsOffsets}
+use Rattle.relaxed_task.specs.Within.{weaker, effect_facts, operator_facts, rule_facts, operators_facts, rules_facts}
+use Rattle.relaxed_task.specs.Making.{has_number, have_numbers, effect_has_numbers, operator_has_numbers, rule_has_numbers, all_numbers_by, effect_by, rule_by, operator_by, operators_by, defaults_by}
+
+join : (a b : Bool) → a ≡ true → b ≡ true → (a && b) ≡ true
+join a b e h = rw e h
+
+below : (a b : ℕ) → a < b → nat_lt a b ≡ true
+below a b lt = grind (arith, nat_tests)
+
+-- their numbers
+
+fact_numbered : (variables : List Variable) (offsets : List ℕ) (n : ℕ) (fact : Fact) → IsOffsets variables offsets → n ≡ fact_count variables → is_fact variables fact ≡ true → has_number offsets n fact ≡ true
+fact_numbered variables offsets n fact is count h =
+    let t = is_numbered variables offsets n fact is count h in
+    join _ _ (below fact.var (length offsets) t.variable) (below (number_by offsets fact) n t.below)
+
+facts_numbered : (variables : List Variable) (offsets : List ℕ) (n : ℕ) (facts : List Fact) → IsOffsets variables offsets → n ≡ fact_count variables → list_all (is_fact variables) facts ≡ true → have_numbers offsets n facts ≡ true
+facts_numbered variables offsets n facts is count all = weaker (is_fact variables) (has_number offsets n) facts (λ f. fact_numbered variables offsets n f is count) all
+
+effect_numbered : (variables : List Variable) (offsets : List ℕ) (n : ℕ) (e : Effect) → IsOffsets variables offsets → n ≡ fact_count variables → effect_facts variables e ≡ true → effect_has_numbers offsets n e ≡ true
+effect_numbered variables offsets n e is count all =
+    let t = both (list_all (is_fact variables) e.conds) (is_fact variables e.fact) all in
+    join _ _ (facts_numbered variables offsets n e.conds is count t.0) (fact_numbered variables offsets n e.fact is count t.1)
+
+operator_numbered : (variables : List Variable) (offsets : List ℕ) (n : ℕ) (o : Operator) → IsOffsets variables offsets → n ≡ fact_count variables → operator_facts variables o ≡ true → operator_has_numbers offsets n o ≡ true
+operator_numbered variables offsets n o is count all =
+    let t = both (list_all (is_fact variables) o.pre) (list_all (effect_facts variables) o.effects) all in
+    join _ _ (facts_numbered variables offsets n o.pre is count t.0) (weaker (effect_facts variables) (effect_has_numbers offsets n) o.effects (λ e. effect_numbered variables offsets n e is count) t.1)
+
+pub operators_numbered : (parts : Parts) (offsets : List ℕ) (n : ℕ) → IsWellFormed parts → IsOffsets parts.variables offsets → n ≡ fact_count parts.variables → list_all (operator_has_numbers offsets n) parts.operators ≡ true
+operators_numbered parts offsets n formed is count =
+    weaker (operator_facts parts.variables) (operator_has_numbers offsets n) parts.operators (λ o. operator_numbered parts.variables offsets n o is count) (operators_facts parts formed)
+
+pub rules_numbered : (parts : Parts) (offsets : List ℕ) (n : ℕ) → IsWellFormed parts → IsOffsets parts.variables offsets → n ≡ fact_count parts.variables → list_all (rule_has_numbers offsets n) parts.rules ≡ true
+rules_numbered parts offsets n formed is count =
+    weaker (rule_facts parts.variables) (rule_has_numbers offsets n) parts.rules
+    (λ r all. let t = both (list_all (is_fact parts.variables) r.conds) (is_fact parts.variables r.head) all in
+    join _ _ (facts_numbered parts.variables offsets n r.conds is count t.0) (fact_numbered parts.variables offsets n r.head is count t.1))
+    (rules_facts parts formed)
+
+pub goals_numbered : (parts : Parts) (offsets : List ℕ) (n : ℕ) → IsWellFormed parts → IsOffsets parts.variables offsets → n ≡ fact_count parts.variables → have_numbers offsets n parts.goal ≡ true
+goals_numbered parts offsets n formed is count = facts_numbered parts.variables offsets n parts.goal is count (goal-facts parts formed)
+
+-- numbers are the same
+
+numbers_same : (variables : List Variable) (offsets : List ℕ) (facts : List Fact) → IsOffsets variables offsets → list_all (is_fact variables) facts ≡ true → all_numbers_by offsets facts ≡ numbers_of variables facts
+numbers_same variables offsets [] is all = refl
+numbers_same variables offsets (f ∷ facts) is all =
+    let t = both (is_fact variables f) (list_all (is_fact variables) facts) all in
+    rw (number_by-is variables offsets f is t.0, numbers_same variables offsets facts is t.1) refl
+
+all_of_two : (p : Fact → Bool) (xs ys : List Fact) → list_all p xs ≡ true → list_all p ys ≡ true → list_all p (xs ++ ys) ≡ true
+all_of_two p [] ys a b = b
+all_of_two p (x ∷ xs) ys a b = let t = both (p x) (list_all p xs) a in join _ _ t.0 (all_of_two p xs ys t.1 b)
+
+effect_same : (parts : Parts) (kind : CostKind) (offsets : List ℕ) (op : ℕ) (o : Operator) (e : Effect) → IsOffsets parts.variables offsets → list_all (is_fact parts.variables) o.pre ≡ true → effect_facts parts.variables e ≡ true →
+    effect_by offsets op (adjusted_cost parts op kind) o.pre e ≡ unary_of_effect parts kind op o e
+effect_same parts kind offsets op o e is pre all =
+    let t = both (list_all (is_fact parts.variables) e.conds) (is_fact parts.variables e.fact) all in
+    rw (numbers_same parts.variables offsets (o.pre ++ e.conds) is (all_of_two (is_fact parts.variables) o.pre e.conds pre t.0), number_by-is parts.variables offsets e.fact is t.1) refl
+
+effects_same : (parts : Parts) (kind : CostKind) (offsets : List ℕ) (op : ℕ) (o : Operator) (effects : List Effect) → IsOffsets parts.variables offsets → list_all (is_fact parts.variables) o.pre ≡ true → list_all (effect_facts parts.variables) effects ≡ true →
+    map (effect_by offsets op (adjusted_cost parts op kind) o.pre) effects ≡ map (unary_of_effect parts kind op o) effects
+effects_same parts kind offsets op o [] is pre all = refl
+effects_same parts kind offsets op o (e ∷ effects) is pre all =
+    let t = both (effect_facts parts.variables e) (list_all (effect_facts parts.variables) effects) all in
+    ap (λ u. u ∷ map (effect_by offsets op (adjusted_cost parts op kind) o.pre) effects) (effect_same parts kind offsets op o e is pre t.0)
+    ∙ ap (λ us. unary_of_effect parts kind op o e ∷ us) (effects_same parts kind offsets op o effects is pre t.1)
+
+operators_from : (parts : Parts) (kind : CostKind) (offsets : List ℕ) (k : ℕ) (operators : List Operator) → IsOffsets parts.variables offsets → list_all (operator_facts parts.variables) operators ≡ true →
+    flat_map (λ p. operator_by parts kind offsets p.0 p.1) (enumerate_from k operators) ≡ flat_map (λ p. unaries_of_operator parts kind p.0 p.1) (enumerate_from k operators)
+operators_from parts kind offsets k [] is all = refl
+operators_from parts kind offsets k (o ∷ operators) is all =
+    let t = both (operator_facts parts.variables o) (list_all (operator_facts parts.variables) operators) all in
+    let own = both (list_all (is_fact parts.variables) o.pre) (list_all (effect_facts parts.variables) o.effects) t.0 in
+    ap (λ us. us ++ flat_map (λ p. operator_by parts kind offsets p.0 p.1) (enumerate_from (k + 1) operators)) (effects_same parts kind offsets k o o.effects is own.0 own.1)
+    ∙ ap (λ us. unaries_of_operator parts kind k o ++ us) (operators_from parts kind offsets (k + 1) operators is t.1)
+
+rules_same : (parts : Parts) (offsets : List ℕ) (rules : List Rule) → IsOffsets parts.variables offsets → list_all (rule_facts parts.variables) rules ≡ true → map (rule_by offsets) rules ≡ map (unary_of_rule parts) rules
+rules_same parts offsets [] is all = refl
+rules_same parts offsets (r ∷ rules) is all =
+    let t = both (rule_facts parts.variables r) (list_all (rule_facts parts.variables) rules) all in
+    let own = both (list_all (is_fact parts.variables) r.conds) (is_fact parts.variables r.head) t.0 in
+    let here : rule_by offsets r ≡ unary_of_rule parts r = rw (numbers_same parts.variables offsets r.conds is own.0, number_by-is parts.variables offsets r.head is own.1) refl in
+    ap (λ u. u ∷ map (rule_by offsets) rules) here ∙ ap (λ us. unary_of_rule parts r ∷ us) (rules_same parts offsets rules is t.1)
+
+pub unaries_same : (parts : Parts) (kind : CostKind) (offsets : List ℕ) (one two three : List Unary) → IsWellFormed parts → IsOffsets parts.variables offsets →
+    one ≡ [] → two ≡ one ++ operators_by parts kind offsets parts.operators → three ≡ two ++ map (rule_by offsets) parts.rules → three ≡ unaries_of parts kind
+unaries_same parts kind offsets one two three formed is none operators rules =
+    let a : two ≡ flat_map (λ p. unaries_of_operator parts kind p.0 p.1) (enumerate_from 0 parts.operators) = operators ∙ (ap (λ us. us ++ operators_by parts kind offsets parts.operators) none ∙ operators_from parts kind offsets 0 parts.operators is (operators_facts parts formed)) in
+    rules ∙ (ap (λ us. us ++ map (rule_by offsets) parts.rules) a ∙ ap (λ us. flat_map (λ p. unaries_of_operator parts kind p.0 p.1) (enumerate_from 0 parts.operators) ++ us) (rules_same parts offsets parts.rules is (rules_facts parts formed)))
+
+pub goals_same : (parts : Parts) (offsets goals : List ℕ) → IsWellFormed parts → IsOffsets parts.variables offsets → goals ≡ distinct (all_numbers_by offsets (parts.goal ++ [])) → goals ≡ distinct (numbers_of parts.variables parts.goal)
+goals_same parts offsets goals formed is made = made ∙ ap distinct (ap (all_numbers_by offsets) (nothing parts.goal) ∙ numbers_same parts.variables offsets parts.goal is (goal-facts parts formed))
+  where
+    nothing : (zs : List Fact) → zs ++ [] ≡ zs
+    nothing [] = refl
+    nothing (z ∷ zs) = ap (λ t. z ∷ t) (nothing zs)
+
+-- the defaults
+
+defaults_from : (variables : List Variable) (offsets : List ℕ) (k : ℕ) (init : List ℕ) → ((i : ℕ) → i < length init → number_by offsets (fact_at (k + i) (slice_index init i)) ≡ number_of variables (fact_at (k + i) (slice_index init i))) →
+    map (λ p. number_by offsets (fact_at p.0 p.1)) (filter (λ p. is_derived variables p.0) (enumerate_from k init)) ≡ map (λ p. number_of variables (fact_at p.0 p.1)) (filter (λ p. is_derived variables p.0) (enumerate_from k init))
+defaults_from variables offsets k [] same = refl
+defaults_from variables offsets k (x ∷ init) same =
+    let z : k + 0 ≡ k = omega arith in
+    let here : number_by offsets (fact_at k x) ≡ number_of variables (fact_at k x) = rw z at (same 0 (omega arith)) in
+    by_test (is_derived variables k) here (defaults_from variables offsets (k + 1) init (λ i lt. let e : k + suc i ≡ (k + 1) + i = omega arith in rw e at (same (suc i) (omega arith))))
+  where
+    rest : List (ℕ × ℕ)
+    rest = filter (λ p. is_derived variables p.0) (enumerate_from (k + 1) init)
+
+    by_test : (b : Bool) → number_by offsets (fact_at k x) ≡ number_of variables (fact_at k x) → map (λ p. number_by offsets (fact_at p.0 p.1)) rest ≡ map (λ p. number_of variables (fact_at p.0 p.1)) rest →
+        map (λ p. number_by offsets (fact_at p.0 p.1)) (if b then (k, x) ∷ rest else rest) ≡ map (λ p. number_of variables (fact_at p.0 p.1)) (if b then (k, x) ∷ rest else rest)
+    by_test true here more = rw (here, more) refl
+    by_test false here more = more
+
+initial_number : (parts : Parts) (offsets : List ℕ) (var : ℕ) → IsWellFormed parts → IsOffsets parts.variables offsets → var < length parts.init →
+    number_by offsets (fact_at var (slice_index parts.init var)) ≡ number_of parts.variables (fact_at var (slice_index parts.init var))
+initial_number parts offsets var formed is lt =
+    let init = init-state parts formed in
+    number_by-is parts.variables offsets (fact_at var (slice_index parts.init var)) is (state_fact parts.variables parts.init var init (omega (arith, init.long)))
+
+pub defaults_same : (parts : Parts) (offsets : List ℕ) → IsWellFormed parts → IsOffsets parts.variables offsets → defaults_by offsets parts.variables parts.init ≡ defaults_of parts
+defaults_same parts offsets formed is = defaults_from parts.variables offsets 0 parts.init (λ i lt. let z : 0 + i ≡ i = omega arith in rw z (initial_number parts offsets i formed is lt))
+
+-- the sums of where facts begin and initial values are small
+pub defaults_small : (parts : Parts) (offsets : List ℕ) (var : ℕ) → IsWellFormed parts → IsOffsets parts.variables offsets → var < length parts.init → slice_index offsets var + slice_index parts.init var < 4294967296
+defaults_small parts offsets var formed is lt =
+    let init = init-state parts formed in
+    let fact = state_fact parts.variables parts.init var init (omega (arith, init.long)) in
+    let less = number_below parts.variables (fact_at var (slice_index parts.init var)) fact in
+    let few = formed.few_facts in
+    let same : slice_index offsets var + slice_index parts.init var ≡ number_of parts.variables (fact_at var (slice_index parts.init var)) = initial_number parts offsets var formed is lt in
+    omega (arith, less, few, same)

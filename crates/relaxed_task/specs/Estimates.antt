@@ -1,0 +1,21 @@
+-- The lesser of estimates, and their order.
+use Rattle.std.specs.Prelude.{◌≤◌, min, Bool, true, false}
+use Rattle.lama_num.specs.declared.estimates.Estimate.{Estimate}
+use Rattle.lama_num.specs.declared.estimates.Estimate.TheVariants.{Finite, Infinite}
+
+-- the lesser
+abbrev pub least : Estimate → Estimate → Estimate
+least (Finite a) (Finite b) = Finite (min a b)
+least (Finite a) Infinite = Finite a
+least Infinite b = b
+
+abbrev pub is_finite : Estimate → Bool
+is_finite (Finite a) = true
+is_finite Infinite = false
+
+-- no more than another
+abbrev pub IsAtMost : Estimate → Estimate → Type 0
+IsAtMost (Finite a) (Finite b) = a ≤ b
+IsAtMost (Finite a) Infinite = Unit {0}
+IsAtMost Infinite (Finite b) = ⊥
+IsAtMost Infinite Infinite = Unit {0}

@@ -1,0 +1,12 @@
+//! The delete relaxation of a task: unary operators, and facts by number.
+#![tactic(auto)]
+
+mod conditions;
+mod making;
+mod relaxation;
+#[cfg(test)]
+mod tests;
+mod unary;
+
+pub use relaxation::{Lists, Relaxed};
+pub use unary::Unary;
