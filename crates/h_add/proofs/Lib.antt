@@ -1,0 +1,9 @@
+pub mod Counting
+pub mod Final
+pub mod Growing
+pub mod Keeps
+pub mod Marking
+pub mod Measures
+pub mod Offering
+pub mod RowLaws
+pub mod Summing

@@ -1,0 +1,26 @@
+use Rattle.std.proofs.Common.{◌≡◌, ◌∙◌, sym, ap, ℕ, List, not}
+use Rattle.std.specs.List.{list_any}
+use Rattle.relaxed_task.specs.DeadEnds.{dead_states_stay_dead}
+use Rattle.relaxed_task.specs.DeadLaws.{dead_where_infinite, infinite_where_dead}
+use Rattle.relaxed_task.specs.Estimates.{is_finite}
+use Rattle.h_add.specs.Values.{value_at, Evaluator}
+use Rattle.h_add.proofs.add.Add.is_dead.Goals as goal
+
+-- the answer looks at the costs that contracts see
+looks : (c : goal.After-some_infinite) → c.some_infinite.result ≡ list_any (λ (fact : ℕ). not (is_finite (value_at c.args.self.now.costs fact))) c.args.self.now.relaxed.goals
+looks c =
+    let costs : c.deref.result.now ≡ c.args.self.now.costs = c.deref.ensures.value ∙ ap (λ (e : Evaluator). e.costs) c.self.view_is in
+    let goals : c.goals.result.now ≡ c.args.self.now.relaxed.goals = c.goals.ensures.goals ∙ ap (λ (e : Evaluator). e.relaxed.goals) c.self.view_is in
+    c.some_infinite.ensures ∙ (ap (λ (xs : List ℕ). list_any (λ (fact : ℕ). not (is_finite (value_at xs fact))) c.goals.result.now) costs ∙ ap (λ (xs : List ℕ). list_any (λ (fact : ℕ). not (is_finite (value_at c.args.self.now.costs fact))) xs) goals)
+
+pub returns-clause-exact : goal.returns-clause-exact
+returns-clause-exact c parts kind state is evaluated =
+    let answer = looks c in (
+      λ yes_dead. dead_where_infinite parts kind state (value_at c.args.self.now.costs) evaluated (rw is.goals at (sym answer ∙ yes_dead)),
+      λ dead. answer ∙ rw is.goals (infinite_where_dead parts kind state (value_at c.args.self.now.costs) evaluated dead),
+    )
+
+pub returns-clause-safe : goal.returns-clause-safe
+returns-clause-safe c parts kind state ops last is evaluated formed of yes_dead reached =
+    let answer = looks c in
+    dead_states_stay_dead parts state ops last formed of (dead_where_infinite parts kind state (value_at c.args.self.now.costs) evaluated (rw is.goals at (sym answer ∙ yes_dead))) reached

@@ -1,0 +1,17 @@
+use Rattle.std.proofs.Common.{◌≡◌, ◌+◌, ◌∙◌, sym, ap, subst, get_or, ℕ, List}
+use Rattle.lama_num.specs.declared.estimates.Estimate.{Estimate}
+use Rattle.relaxed_task.specs.NumberLaws.{number_by-is}
+use Rattle.relaxed_task.specs.Numbers.{number_of}
+use Rattle.relaxed_task.specs.Sums.{IsAdd}
+use Rattle.h_add.specs.Values.{value_at, Evaluator}
+use Rattle.h_add.proofs.add.Add.value.Goals as goal
+
+pub returns : goal.returns
+returns c parts kind state without is evaluated there =
+    let costs : c.deref.result.now ≡ c.args.self.now.costs = c.deref.ensures.value ∙ ap (λ (e : Evaluator). e.costs) c.self.view_is in
+    let offsets : c.offsets.result.now ≡ c.args.self.now.relaxed.offsets = c.offsets.ensures ∙ ap (λ (e : Evaluator). e.relaxed.offsets) c.self.view_is in
+    let number : c.number.result ≡ number_of parts.variables c.args.fact =
+    c.number.ensures ∙ (ap (λ (xs : List ℕ). get_or xs c.args.fact.var 0 + c.args.fact.val) offsets ∙ number_by-is parts.variables c.args.self.now.relaxed.offsets c.args.fact is.offsets there) in
+    let value : c.value_of.result ≡ value_at c.args.self.now.costs (number_of parts.variables c.args.fact) =
+    c.value_of.ensures ∙ (ap (λ (xs : List ℕ). value_at xs c.number.result) costs ∙ ap (λ (n : ℕ). value_at c.args.self.now.costs n) number) in
+    subst (λ (e : Estimate). IsAdd parts kind state without (number_of parts.variables c.args.fact) e) (sym value) (evaluated (number_of parts.variables c.args.fact))

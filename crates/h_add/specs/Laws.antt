@@ -1,0 +1,114 @@
+-- Laws of unary operators and of evaluated states, for those who build on the estimate.
+use Rattle.std.specs.Prelude.{◌≡◌, ℕ, ◌+◌, List, [], ◌∷◌, ◌++◌, map, Bool, true, false, not, ◌&&◌, ◌||◌, ◌↔◌}
+use Rattle.std.specs.List.{list_all, list_any, enumerate_from, flat_map}
+use Rattle.std.proofs.Common.{refl, sym, ap, ◌∙◌}
+use Rattle.std.proofs.lemmas.List.Folds.{list_all-append}
+use Rattle.lama_num.specs.Lists.{list_all_get}
+use Rattle.lama_num.specs.Estimates.{estimate_sum}
+use Rattle.lama_num.specs.declared.estimates.Estimate.{Estimate}
+use Rattle.lama_num.specs.declared.estimates.Estimate.TheVariants.{Finite, Infinite}
+use Rattle.sas_task.specs.declared.contents.CostKind.{CostKind}
+use Rattle.sas_task.specs.declared.contents.Effect.{Effect}
+use Rattle.sas_task.specs.declared.contents.Operator.{Operator}
+use Rattle.sas_task.specs.declared.contents.Parts.{Parts}
+use Rattle.sas_task.specs.declared.contents.Rule.{Rule}
+use Rattle.relaxed_task.specs.DeadLaws.{dead_where_infinite, infinite_where_dead}
+use Rattle.relaxed_task.specs.declared.relaxation.Lists.{Lists}
+use Rattle.relaxed_task.specs.declared.unary.Unary.{Unary}
+use Rattle.relaxed_task.specs.Estimates.{is_finite}
+use Rattle.relaxed_task.specs.Numbers.{numbers_of}
+use Rattle.relaxed_task.specs.Reached.{IsDead}
+use Rattle.relaxed_task.specs.Relaxations.{IsRelaxed}
+use Rattle.relaxed_task.specs.Sums.{total}
+use Rattle.relaxed_task.specs.Unaries.{unaries_of, unary_of_effect, unary_of_rule, unaries_of_operator}
+use Rattle.h_add.specs.Counts.{AreOnce, is_once}
+use Rattle.h_add.specs.Onces.{distinct_once}
+use Rattle.h_add.specs.Values.{value_at, IsEvaluated}
+
+-- the conditions of each unary operator of a task are distinct
+effects_once : (parts : Parts) (kind : CostKind) (op : ℕ) (operator : Operator) (effects : List Effect) → list_all (λ u. is_once u.conds) (map (unary_of_effect parts kind op operator) effects) ≡ true
+effects_once parts kind op operator [] = refl
+effects_once parts kind op operator (e ∷ effects) =
+    let here = distinct_once (numbers_of parts.variables (operator.pre ++ e.conds)) in
+    rw here (effects_once parts kind op operator effects)
+
+rules_once : (parts : Parts) (rules : List Rule) → list_all (λ u. is_once u.conds) (map (unary_of_rule parts) rules) ≡ true
+rules_once parts [] = refl
+rules_once parts (r ∷ rules) =
+    let here = distinct_once (numbers_of parts.variables r.conds) in
+    rw here (rules_once parts rules)
+
+operators_once : (parts : Parts) (kind : CostKind) (k : ℕ) (operators : List Operator) → list_all (λ u. is_once u.conds) (flat_map (λ p. unaries_of_operator parts kind p.0 p.1) (enumerate_from k operators)) ≡ true
+operators_once parts kind k [] = refl
+operators_once parts kind k (o ∷ operators) =
+    let joined = list_all-append (λ (u : Unary). is_once u.conds) (unaries_of_operator parts kind k o) (flat_map (λ p. unaries_of_operator parts kind p.0 p.1) (enumerate_from (k + 1) operators)) in
+    let here = effects_once parts kind k o o.effects in
+    let rest = operators_once parts kind (k + 1) operators in
+    joined ∙ rw (here, rest) refl
+
+pub unaries_once : (parts : Parts) (kind : CostKind) (relaxed : Lists) → IsRelaxed parts kind relaxed → AreOnce relaxed.unaries
+unaries_once parts kind relaxed is i u at =
+    let joined = list_all-append (λ (u : Unary). is_once u.conds) (flat_map (λ p. unaries_of_operator parts kind p.0 p.1) (enumerate_from 0 parts.operators)) (map (unary_of_rule parts) parts.rules) in
+    let all : list_all (λ u. is_once u.conds) (unaries_of parts kind) ≡ true = joined ∙ rw (operators_once parts kind 0 parts.operators, rules_once parts parts.rules) refl in
+    list_all_get (λ (u : Unary). is_once u.conds) relaxed.unaries i u (rw is.unaries all) at
+
+-- some goal fact is infinite exactly where the state is dead
+pub infinite_if_dead : (parts : Parts) (kind : CostKind) (relaxed : Lists) (state costs : List ℕ) → IsRelaxed parts kind relaxed → IsEvaluated parts kind state [] costs →
+    (list_any (λ fact. not (is_finite (value_at costs fact))) relaxed.goals ≡ true) ↔ IsDead parts state
+infinite_if_dead parts kind relaxed state costs is evaluated = (
+  λ some. dead_where_infinite parts kind state (value_at costs) evaluated (rw is.goals at some),
+  λ dead. rw is.goals (infinite_where_dead parts kind state (value_at costs) evaluated dead),
+)
+
+finite_or_not : (value : ℕ → Estimate) (facts : List ℕ) → list_all (λ fact. is_finite (value fact)) facts ≡ not (list_any (λ fact. not (is_finite (value fact))) facts)
+finite_or_not value [] = refl
+finite_or_not value (fact ∷ facts) = by_test (is_finite (value fact)) (finite_or_not value facts)
+  where
+    by_test : (b : Bool) → list_all (λ fact. is_finite (value fact)) facts ≡ not (list_any (λ fact. not (is_finite (value fact))) facts) →
+        (b && list_all (λ fact. is_finite (value fact)) facts) ≡ not (not b || list_any (λ fact. not (is_finite (value fact))) facts)
+    by_test true rest = rest
+    by_test false rest = refl
+
+-- the goal facts are reached where the state isn't dead
+pub finite_if_alive : (parts : Parts) (kind : CostKind) (relaxed : Lists) (state costs : List ℕ) → IsRelaxed parts kind relaxed → IsEvaluated parts kind state [] costs → (IsDead parts state → ⊥) →
+    list_all (λ fact. is_finite (value_at costs fact)) relaxed.goals ≡ true
+finite_if_alive parts kind relaxed state costs is evaluated alive =
+    by_test (list_any (λ fact. not (is_finite (value_at costs fact))) relaxed.goals) refl
+  where
+    by_test : (b : Bool) → list_any (λ fact. not (is_finite (value_at costs fact))) relaxed.goals ≡ b → list_all (λ fact. is_finite (value_at costs fact)) relaxed.goals ≡ true
+    by_test true some = absurd (alive ((infinite_if_dead parts kind relaxed state costs is evaluated).0 some))
+    by_test false none = finite_or_not (value_at costs) relaxed.goals ∙ ap not none
+
+-- a sum is infinite exactly where one of its facts is
+sum_infinite : (a b : Estimate) → is_finite (estimate_sum a b) ≡ (is_finite a && is_finite b)
+sum_infinite (Finite a) (Finite b) = refl
+sum_infinite (Finite a) Infinite = refl
+sum_infinite Infinite b = refl
+
+total_finite : (value : ℕ → Estimate) (facts : List ℕ) → is_finite (total value facts) ≡ not (list_any (λ fact. not (is_finite (value fact))) facts)
+total_finite value [] = refl
+total_finite value (fact ∷ facts) = sum_infinite (value fact) (total value facts) ∙ by_test (is_finite (value fact)) (total_finite value facts)
+  where
+    by_test : (b : Bool) → is_finite (total value facts) ≡ not (list_any (λ fact. not (is_finite (value fact))) facts) →
+        (b && is_finite (total value facts)) ≡ not (not b || list_any (λ fact. not (is_finite (value fact))) facts)
+    by_test true rest = rest
+    by_test false rest = refl
+
+-- the sum over the goal facts is infinite exactly where the state is dead
+pub sum_infinite_if_dead : (parts : Parts) (kind : CostKind) (relaxed : Lists) (state costs : List ℕ) (sum : Estimate) → IsRelaxed parts kind relaxed → IsEvaluated parts kind state [] costs → sum ≡ total (value_at costs) relaxed.goals →
+    (sum ≡ Infinite) ↔ IsDead parts state
+sum_infinite_if_dead parts kind relaxed state costs sum is evaluated sums = (
+  λ infinite. same.0 (some (list_any (λ fact. not (is_finite (value_at costs fact))) relaxed.goals) (sym (total_finite (value_at costs) relaxed.goals) ∙ ap is_finite (sym sums ∙ infinite))),
+  λ dead. sums ∙ infinite_one (total (value_at costs) relaxed.goals) (total_finite (value_at costs) relaxed.goals ∙ ap not (same.1 dead)),
+)
+  where
+    same : (list_any (λ fact. not (is_finite (value_at costs fact))) relaxed.goals ≡ true) ↔ IsDead parts state
+    same = infinite_if_dead parts kind relaxed state costs is evaluated
+
+    some : (b : Bool) → not b ≡ false → b ≡ true
+    some true h = refl
+    some false h = let k : true ≡ false = h in cc
+
+    infinite_one : (e : Estimate) → is_finite e ≡ false → e ≡ Infinite
+    infinite_one (Finite a) h = let k : true ≡ false = h in cc
+    infinite_one Infinite h = refl

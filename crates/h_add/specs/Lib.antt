@@ -1,0 +1,11 @@
+pub mod Counts
+pub mod Laws
+pub mod Listings
+pub mod Marks
+pub mod Onces
+pub mod Queues
+pub mod Ready
+pub mod Rows
+pub mod Tables
+pub mod UnderWay
+pub mod Values

@@ -1,0 +1,193 @@
+// The evaluator.
+ghost use Rattle.std.specs.Prelude.{◌≡◌, [], ℕ, List, IfOk, IsTrue, ◌↔◌, Some, false, length};
+ghost use Rattle.std.specs.List.{list_all};
+ghost use Rattle.sas_task.specs.declared.contents.CostKind.{CostKind as TheKind};
+ghost use Rattle.sas_task.specs.declared.contents.Parts.{Parts};
+ghost use Rattle.sas_task.specs.Runs.{end_of, is_goal};
+ghost use Rattle.sas_task.specs.States.{IsState};
+ghost use Rattle.sas_task.specs.WellFormed.{IsWellFormed, is_fact};
+ghost use Rattle.relaxed_task.specs.Numbers.{number_of, numbers_of};
+ghost use Rattle.relaxed_task.specs.Reached.{IsDead};
+ghost use Rattle.relaxed_task.specs.Relaxations.{IsRelaxed};
+ghost use Rattle.relaxed_task.specs.Sums.{IsAdd, IsGoalValue};
+ghost use Rattle.h_add.specs.Counts.{AreOnce};
+ghost use Rattle.h_add.specs.Tables.{AreTablesOf, AreSound};
+ghost use Rattle.h_add.specs.Values.{value_at, IsEvaluated};
+
+use crate::evaluating::{evaluate_into, evaluate_without_into, some_infinite, value_of};
+use crate::pricing::{INFINITE, estimate, total};
+use crate::queue::{Queue, no_flags};
+use crate::start::number;
+use crate::tables::{Tables, tables_of};
+use lama_num::{Estimate, NoMemory};
+use relaxed_task::Relaxed;
+use sas_task::{CostKind, Fact, Task};
+use std::alloc::{AllocError, Global};
+use std::marker::Model;
+
+/// The additive estimate of the states of one task.
+///
+/// `value`, `goal_value` and `is_dead` speak of the state that was evaluated last. Only `new` takes
+/// memory.
+#[derive(Debug, Drop)]
+pub struct Add {
+    relaxed: Relaxed,
+    tables: Tables,
+    costs: Vec<u32>,
+    queue: Queue,
+    seen: Vec<bool>,
+    counts: Vec<u32>,
+    out: Vec<bool>,
+}
+
+impl Model for Add {
+    ghost use Rattle.h_add.specs.Ready.{IsReady};
+    ghost use Rattle.h_add.specs.Values.{Evaluator};
+
+    ghost Value = { Evaluator };
+
+    ghost view = { λ a. record { relaxed = a.relaxed; costs = a.costs.items } };
+
+    ghost invariant = { λ a. IsReady a.relaxed a.tables a.costs.items a.queue a.seen.items a.counts.items a.out.items };
+}
+
+fn numbers(alloc: Global, number: u32, count: usize) -> Result<Vec<u32>, AllocError>
+    ensures { IfOk result (λ v. length v.items ≡ count) }
+{
+    vec![in alloc; number; count]
+}
+
+/// The evaluator over a relaxation.
+fn evaluator(alloc: Global, relaxed: Relaxed) -> Result<Add, NoMemory>
+    requires { AreOnce relaxed.unaries }
+    ensures { IfOk result (λ add. add.relaxed ≡ relaxed) }
+{
+    let facts = relaxed.facts() as usize;
+    let tables = tables_of(alloc, relaxed.unary(), facts)?;
+    let costs = numbers(alloc, INFINITE, facts)?;
+    let queue = Queue::new(alloc, facts, tables.gives.len().saturating_add(facts))?;
+    let seen = no_flags(alloc, facts)?;
+    let counts = numbers(alloc, 0, tables.gives.len())?;
+    let out = no_flags(alloc, facts)?;
+    Ok(Add {
+        relaxed,
+        tables,
+        costs,
+        queue,
+        seen,
+        counts,
+        out,
+    })
+}
+
+impl Add {
+    /// The evaluator of a task, with operators that cost what a kind of cost says.
+    pub fn new(alloc: Global, task: &Task, kind: CostKind) -> Result<Add, NoMemory>
+        ensures { IfOk result (λ add. IsRelaxed task.now kind add.relaxed) }
+    {
+        let relaxed = Relaxed::new(alloc, task, kind)?;
+        evaluator(alloc, relaxed)
+    }
+
+    /// The relaxation of the task.
+    pub fn relaxed(&self) -> &Relaxed
+        ensures { result.now ≡ self.now.relaxed }
+    {
+        &self.relaxed
+    }
+
+    /// The unary operators in flat tables, for loops over them.
+    pub fn tables(&self) -> &Tables
+        ensures tables { AreTablesOf self.now.relaxed.unaries result.now }
+        ensures sound { AreSound result.now self.now.relaxed.facts }
+    {
+        &self.tables
+    }
+
+    /// Evaluates a state, which has one value for each variable.
+    pub fn evaluate(&mut self, state: &[u32])
+        ensures task { self.new.relaxed ≡ self.old.relaxed }
+        ensures costs { (parts : Parts) (kind : TheKind) → IsRelaxed parts kind self.old.relaxed → IsState parts.variables state.now →
+            IsEvaluated parts kind state.now [] self.new.costs }
+    {
+        evaluate_into(
+            &self.relaxed,
+            &self.tables,
+            state,
+            &self.out,
+            &mut self.costs,
+            &mut self.queue,
+            &mut self.seen,
+            &mut self.counts,
+        );
+    }
+
+    /// Evaluates a state without some facts: they are neither among those that are reached at first,
+    /// nor does any unary operator give them.
+    pub fn evaluate_without(&mut self, state: &[u32], excluded: &[Fact])
+        ensures task { self.new.relaxed ≡ self.old.relaxed }
+        ensures costs { (parts : Parts) (kind : TheKind) → IsRelaxed parts kind self.old.relaxed → IsState parts.variables state.now →
+            IsTrue (list_all (is_fact parts.variables) excluded.now) →
+            IsEvaluated parts kind state.now (numbers_of parts.variables excluded.now) self.new.costs }
+    {
+        evaluate_without_into(
+            &self.relaxed,
+            &self.tables,
+            state,
+            excluded,
+            &mut self.out,
+            &mut self.costs,
+            &mut self.queue,
+            &mut self.seen,
+            &mut self.counts,
+        );
+    }
+
+    /// What a fact costs.
+    pub fn value(&self, fact: Fact) -> Estimate
+        ensures { (parts : Parts) (kind : TheKind) (state without : List ℕ) → IsRelaxed parts kind self.now.relaxed →
+            IsEvaluated parts kind state without self.now.costs → IsTrue (is_fact parts.variables fact) →
+            IsAdd parts kind state without (number_of parts.variables fact) result }
+    {
+        value_of(
+            &self.costs,
+            number(self.relaxed.offsets(), fact.var as usize, fact.val),
+        )
+    }
+
+    /// What a fact costs, by its number in the relaxation.
+    pub fn value_by_number(&self, number: u32) -> Estimate
+        ensures { result ≡ value_at self.now.costs number }
+    {
+        value_of(&self.costs, number as usize)
+    }
+
+    /// What the facts cost, by their numbers in the relaxation. A cost above 1,000,000,000 is infinite.
+    pub fn costs(&self) -> &[u32]
+        ensures { result.now ≡ self.now.costs }
+    {
+        &self.costs
+    }
+
+    /// The sum of what the goal facts cost, each once. It is finite where all of them are reached, and
+    /// then at most 1,000,000,000.
+    pub fn goal_value(&self) -> Estimate
+        ensures value { (parts : Parts) (kind : TheKind) (state without : List ℕ) → IsRelaxed parts kind self.now.relaxed →
+            IsEvaluated parts kind state without self.now.costs → IsGoalValue parts kind state without result }
+        ensures dead { (parts : Parts) (kind : TheKind) (state : List ℕ) → IsRelaxed parts kind self.now.relaxed →
+            IsEvaluated parts kind state [] self.now.costs → ((result ≡ Estimate.Infinite) ↔ IsDead parts state) }
+    {
+        estimate(total(&self.costs, self.relaxed.goals()))
+    }
+
+    /// Whether some goal fact is never reached. Then no operators lead to a state where the goal holds.
+    pub fn is_dead(&self) -> bool
+        ensures exact { (parts : Parts) (kind : TheKind) (state : List ℕ) → IsRelaxed parts kind self.now.relaxed →
+            IsEvaluated parts kind state [] self.now.costs → (IsTrue result ↔ IsDead parts state) }
+        ensures safe { (parts : Parts) (kind : TheKind) (state ops last : List ℕ) → IsRelaxed parts kind self.now.relaxed →
+            IsEvaluated parts kind state [] self.now.costs → IsWellFormed parts → IsState parts.variables state → IsTrue result →
+            end_of parts state ops ≡ Some last → is_goal parts last ≡ false }
+    {
+        some_infinite(&self.costs, self.relaxed.goals())
+    }
+}

@@ -1,0 +1,61 @@
+// Sums of what facts cost.
+ghost use Rattle.std.specs.Prelude.{◌≡◌, ◌≤◌, ◌<◌, ℕ, List, length, min, IsTrue, slice_get, Some};
+ghost use Rattle.lama_num.specs.Estimates.{estimate_sum};
+ghost use Rattle.relaxed_task.specs.declared.unary.Unary.{Unary};
+ghost use Rattle.relaxed_task.specs.Sums.{total as total_of, price as price_of};
+ghost use Rattle.h_add.specs.Values.{estimate_of, value_at};
+ghost use Rattle.h_add.specs.Tables.{AreTablesOf, AreSound, are_below};
+
+use crate::tables::Tables;
+use lama_num::{Estimate, LARGEST_ESTIMATE};
+
+/// A cost as it is kept, where a fact isn't reached.
+pub const INFINITE: u32 = 4_294_967_295;
+
+/// A cost that is kept, as an estimate.
+pub fn estimate(cost: u32) -> Estimate
+    ensures { result ≡ estimate_of cost }
+{
+    if cost <= LARGEST_ESTIMATE {
+        Estimate::Finite(cost)
+    } else {
+        Estimate::Infinite
+    }
+}
+
+/// The sum of what facts cost.
+pub fn total(costs: &[u32], facts: &[u32]) -> u32
+    requires { IsTrue (are_below (length costs.now) facts.now) }
+    ensures { estimate_of result ≡ total_of (value_at costs.now) facts.now }
+{
+    let mut sum = 0;
+    for fact in facts {
+        let cost = costs[*fact as usize];
+        if cost > LARGEST_ESTIMATE {
+            return INFINITE;
+        }
+        sum = (sum + cost).min(LARGEST_ESTIMATE);
+    }
+    sum
+}
+
+/// An operator's cost and what its conditions cost.
+fn with_cost(cost: u32, total: u32) -> u32
+    ensures { estimate_of result ≡ estimate_sum (Estimate.Finite cost) (estimate_of total) }
+{
+    if total > LARGEST_ESTIMATE {
+        INFINITE
+    } else {
+        (cost.min(LARGEST_ESTIMATE) + total).min(LARGEST_ESTIMATE)
+    }
+}
+
+/// What a unary operator asks for.
+pub fn price(tables: &Tables, i: usize, costs: &[u32]) -> u32
+    requires sound { AreSound tables.now (length costs.now) }
+    requires within { i < length tables.now.gives }
+    ensures { (unaries : List Unary) (u : Unary) → AreTablesOf unaries tables.now → slice_get unaries i ≡ Some u →
+        estimate_of result ≡ price_of (value_at costs.now) u }
+{
+    with_cost(tables.costs[i], total(costs, tables.conds.row(i)))
+}
