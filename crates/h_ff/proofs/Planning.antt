@@ -1,0 +1,114 @@
+-- What is needed of an order is a relaxed plan.
+use Rattle.std.proofs.Common.{◌≡◌, ◌∙◌, sym, ap, subst, refl, ℕ, ◌+◌, ◌≤◌, List, [], ◌∷◌, ◌++◌, length, length-append, Bool, true, false, not, nat_lt, ◌&&◌, ◌||◌, arith, reverse, if◌then◌else◌, Contains, Some, slice_get, filter}
+use Rattle.std.specs.List.{list_all, list_any}
+use Rattle.sas_task.specs.declared.contents.CostKind.{CostKind}
+use Rattle.sas_task.specs.declared.contents.Parts.{Parts}
+use Rattle.lama_num.specs.declared.estimates.Estimate.{Estimate}
+use Rattle.relaxed_task.specs.declared.relaxation.Lists.{Lists}
+use Rattle.relaxed_task.specs.declared.unary.Unary.{Unary}
+use Rattle.relaxed_task.specs.Estimates.{is_finite}
+use Rattle.relaxed_task.specs.Numbers.{numbers_of, distinct}
+use Rattle.relaxed_task.specs.Unaries.{unaries_of}
+use Rattle.relaxed_task.specs.Reached.{IsDead, is_among, start_facts}
+use Rattle.relaxed_task.specs.Relaxations.{IsRelaxed}
+use Rattle.relaxed_task.specs.Kept.{kept}
+use Rattle.relaxed_task.specs.Plans.{IsSupported}
+use Rattle.relaxed_task.specs.Sums.{IsLeast, add_round}
+use Rattle.relaxed_task.specs.DeadLaws.{dead_where_infinite}
+use Rattle.state_step.specs.Steps.{is_applicable}
+use Rattle.h_add.specs.Values.{value_at, IsEvaluated}
+use Rattle.h_ff.specs.Best.{is_given, is_ready}
+use Rattle.h_ff.specs.Orders.{chosen, IsOrder, kept_places, is_needed, are_places}
+use Rattle.h_ff.specs.RelaxedPlans.{ops_of, AreOperatorsOf, HasPlan, cost_of}
+use Rattle.h_ff.proofs.Grows.{plan_of_order}
+use Rattle.h_ff.proofs.Keeping.{places_of_plan}
+use Rattle.h_ff.proofs.UsedOperators.{ops_reversed, ops_forward}
+
+both : (a b : Bool) → (a && b) ≡ true → (a ≡ true) × (b ≡ true)
+both true b e = (refl, e)
+both false b e = let k : false ≡ true = e in absurd cc
+
+places_grow : (n : ℕ) (order : List ℕ) (i : ℕ) → are_places n order ≡ true → nat_lt i n ≡ true → are_places n (order ++ i ∷ []) ≡ true
+places_grow n [] i all lt = rw lt refl
+places_grow n (x ∷ order) i all lt =
+    let parts = both (nat_lt x n) (are_places n order) all in
+    rw parts.0 (places_grow n order i parts.1 lt)
+
+-- those that are kept are among the places, and no more
+pub kept_within : (unaries : List Unary) (goals order : List ℕ) (n : ℕ) → are_places n order ≡ true → are_places n (kept_places unaries goals order) ≡ true
+kept_within unaries goals [] n all = refl
+kept_within unaries goals (i ∷ order) n all = by_test (is_needed unaries goals i order) (kept_within unaries goals order n parts.1)
+  where
+    parts : (nat_lt i n ≡ true) × (are_places n order ≡ true)
+    parts = both (nat_lt i n) (are_places n order) all
+
+    by_test : (b : Bool) → are_places n (kept_places unaries goals order) ≡ true → are_places n (if b then kept_places unaries goals order ++ i ∷ [] else kept_places unaries goals order) ≡ true
+    by_test true rest = places_grow n (kept_places unaries goals order) i rest parts.0
+    by_test false rest = rest
+
+pub kept_few : (unaries : List Unary) (goals order : List ℕ) → length (kept_places unaries goals order) ≤ length order
+kept_few unaries goals [] = omega arith
+kept_few unaries goals (i ∷ order) = let le = by_test (is_needed unaries goals i order) (kept_few unaries goals order) in omega arith
+  where
+    by_test : (b : Bool) → length (kept_places unaries goals order) ≤ length order → length (if b then kept_places unaries goals order ++ i ∷ [] else kept_places unaries goals order) ≤ length order + 1
+    by_test true rest = let one = length-append (kept_places unaries goals order) (i ∷ []) in omega arith
+    by_test false rest = omega arith
+
+-- their operators are those of the relaxed plan
+pub planned : (unaries : List Unary) (goals order places ops : List ℕ) → places ≡ kept_places unaries goals order → ((op : ℕ) → (Contains ops op → Contains (ops_of (chosen unaries places)) op) × (Contains (ops_of (chosen unaries places)) op → Contains ops op)) →
+    (op : ℕ) → (Contains ops op → Contains (ops_of (kept goals (chosen unaries order))) op) × (Contains (ops_of (kept goals (chosen unaries order))) op → Contains ops op)
+planned unaries goals order places ops is same op =
+    let back : chosen unaries places ≡ reverse (kept goals (chosen unaries order)) = ap (chosen unaries) is ∙ places_of_plan unaries goals order in (
+      (λ h. ops_reversed (kept goals (chosen unaries order)) op (subst (λ (list : List Unary). Contains (ops_of list) op) back ((same op).0 h))),
+      (λ h. (same op).1 (subst (λ (list : List Unary). Contains (ops_of list) op) (sym back) (ops_forward (kept goals (chosen unaries order)) op h))),
+    )
+
+-- where the state isn't dead, all goal facts are reached
+all_finite : (p : ℕ → Bool) (facts : List ℕ) → list_any (λ fact. not (p fact)) facts ≡ false → list_all p facts ≡ true
+all_finite p [] none = refl
+all_finite p (f ∷ facts) none = by_test (p f) none (λ rest. all_finite p facts rest)
+  where
+    by_test : (b : Bool) → (not b || list_any (λ fact. not (p fact)) facts) ≡ false → (list_any (λ fact. not (p fact)) facts ≡ false → list_all p facts ≡ true) → (b && list_all p facts) ≡ true
+    by_test true none rest = rest none
+    by_test false none rest = let k : true ≡ false = none in absurd cc
+
+pub goals_finite : (parts : Parts) (kind : CostKind) (state costs : List ℕ) → IsEvaluated parts kind state [] costs → (IsDead parts state → ⊥) → list_all (λ fact. is_finite (value_at costs fact)) (distinct (numbers_of parts.variables parts.goal)) ≡ true
+goals_finite parts kind state costs evaluated alive =
+    all_finite (λ fact. is_finite (value_at costs fact)) (distinct (numbers_of parts.variables parts.goal)) (by_test (list_any (λ fact. not (is_finite (value_at costs fact))) (distinct (numbers_of parts.variables parts.goal))) refl)
+  where
+    by_test : (b : Bool) → list_any (λ fact. not (is_finite (value_at costs fact))) (distinct (numbers_of parts.variables parts.goal)) ≡ b → b ≡ false
+    by_test true is = absurd (alive (dead_where_infinite parts kind state (value_at costs) evaluated is))
+    by_test false is = refl
+
+supported_as : (unaries other : List Unary) (goals more start : List ℕ) (costs : ℕ → Estimate) (list : List Unary) → unaries ≡ other → goals ≡ more → IsSupported unaries start costs goals list → IsSupported other start costs more list
+supported_as unaries other goals more start costs list a b is =
+    subst (λ (us : List Unary). IsSupported us start costs more list) a (subst (λ (gs : List ℕ). IsSupported unaries start costs gs list) b is)
+
+-- what FF answers where the state isn't dead
+pub has_plan : (parts : Parts) (kind : CostKind) (state costs : List ℕ) (lists : Lists) (given : List Bool) (order ops preferred : List ℕ) (value : ℕ) → IsRelaxed parts kind lists → IsEvaluated parts kind state [] costs → (IsDead parts state → ⊥) →
+    IsOrder lists.unaries (start_facts parts state) (value_at costs) given order → ((i : ℕ) (u : Unary) → slice_get lists.unaries i ≡ Some u → is_ready given (value_at costs) u ≡ false) →
+    AreOperatorsOf (kept lists.goals (chosen lists.unaries order)) ops → value ≡ cost_of parts kind ops → preferred ≡ filter (is_applicable parts state) ops → HasPlan parts kind state value ops preferred
+has_plan parts kind state costs lists given order ops preferred value is evaluated alive ordered none operators cost applicable =
+    let finite = subst (λ (facts : List ℕ). list_all (λ fact. is_finite (value_at costs fact)) facts ≡ true) (sym is.goals) (goals_finite parts kind state costs evaluated alive) in
+    let least = subst (λ (unaries : List Unary). (fact : ℕ) → IsLeast (λ n. add_round unaries (start_facts parts state) [] n fact) (value_at costs fact)) (sym is.unaries) evaluated in
+    let supported = plan_of_order lists.unaries (start_facts parts state) (value_at costs) given order lists.goals least ordered none finite in
+    record {
+      alive = alive;
+      list = kept lists.goals (chosen lists.unaries order);
+      plan = record { costs = value_at costs; each = evaluated; supported = supported_as lists.unaries (unaries_of parts kind) lists.goals (distinct (numbers_of parts.variables parts.goal)) (start_facts parts state) (value_at costs) (kept lists.goals (chosen lists.unaries order)) is.unaries is.goals supported };
+      operators = operators;
+      cost = cost;
+      applicable = applicable;
+    }
+
+-- the goal facts are marked at first
+pub marked_goals : (goals shown : List ℕ) (old new : List Bool) → shown ≡ goals → ((fact : ℕ) → is_given old fact ≡ false) → ((fact : ℕ) → is_given new fact ≡ (is_among shown fact || is_given old fact)) → (fact : ℕ) → is_given new fact ≡ is_among goals fact
+marked_goals goals shown old new same clear marks fact =
+    marks fact ∙ (ap (λ (b : Bool). is_among shown fact || b) (clear fact) ∙ (or_false (is_among shown fact) ∙ ap (λ (xs : List ℕ). is_among xs fact) same))
+  where
+    or_false : (a : Bool) → (a || false) ≡ a
+    or_false true = refl
+    or_false false = refl
+
+pub operators_as : (unaries shown : List Unary) (goals order ops : List ℕ) → shown ≡ unaries → AreOperatorsOf (kept goals (chosen shown order)) ops → AreOperatorsOf (kept goals (chosen unaries order)) ops
+operators_as unaries shown goals order ops same is = subst (λ (us : List Unary). AreOperatorsOf (kept goals (chosen us order)) ops) same is

@@ -1,0 +1,33 @@
+use Rattle.std.proofs.Common.{◌≡◌, ◌∙◌, sym, ap, subst, List, [], ℕ, true, false}
+use Rattle.relaxed_task.specs.declared.relaxation.Lists.{Lists}
+use Rattle.relaxed_task.specs.Kept.{kept}
+use Rattle.relaxed_task.specs.Reached.{IsDead}
+use Rattle.relaxed_task.specs.Relaxations.{IsRelaxed}
+use Rattle.sas_task.specs.declared.contents.CostKind.{CostKind}
+use Rattle.state_step.specs.Steps.{is_applicable}
+use Rattle.std.specs.List.{filter}
+use Rattle.h_add.specs.Counts.{AreOnce}
+use Rattle.h_add.specs.Values.{IsEvaluated}
+use Rattle.h_ff.specs.Orders.{chosen}
+use Rattle.h_ff.specs.Ready.{Planner}
+use Rattle.h_ff.specs.RelaxedPlans.{AreOperatorsOf, cost_of}
+use Rattle.h_ff.proofs.Ordering.{relaxed_as}
+use Rattle.h_ff.proofs.Planning.{has_plan}
+use Rattle.h_ff.proofs.ff.Ff.evaluate.Goals as goal
+
+pub order_best-requires-clause-once : goal.order_best-requires-clause-once
+order_best-requires-clause-once c = subst (λ (l : Lists). AreOnce l.unaries) (sym c.evaluate.ensures.task) c.self.invariant.once
+
+pub returns-clause-answer : goal.returns-clause-answer
+returns-clause-answer c task of =
+    let own : c.self.inside.add.relaxed ≡ c.args.self.now.relaxed = ap (λ (p : Planner). p.relaxed) c.self.view_is in
+    let kind : c.self.inside.kind ≡ c.args.self.now.kind = ap (λ (p : Planner). p.kind) c.self.view_is in
+    let is : IsRelaxed c.args.task.now c.args.self.now.kind c.evaluate.new.self.relaxed = relaxed_as _ _ _ _ (c.evaluate.ensures.task ∙ own) task in
+    let evaluated : IsEvaluated c.args.task.now c.args.self.now.kind c.args.state.now [] c.evaluate.new.self.costs =
+    c.evaluate.ensures.costs c.args.task.now c.args.self.now.kind (relaxed_as _ _ _ _ own task) of in
+    let alive : IsDead c.args.task.now c.args.state.now → ⊥ = λ dead. (let k : true ≡ false = sym ((c.is_dead.ensures.exact c.args.task.now c.args.self.now.kind c.args.state.now is evaluated).1 dead) ∙ c.if-is_dead.false in absurd cc) in
+    has_plan c.args.task.now c.args.self.now.kind c.args.state.now c.evaluate.new.self.costs c.evaluate.new.self.relaxed _ _ _ _ _ is evaluated alive
+    (c.order_best.ensures.order c.args.task.now c.args.self.now.kind is of) c.order_best.ensures.none
+    (subst (λ (l : Lists). AreOperatorsOf (kept l.goals (chosen l.unaries c.order_best.new.queues.order.items)) c.plan_best.new.plan.items) c.relaxed.ensures c.plan_best.ensures.operators)
+    (c.cost.ensures ∙ (ap (λ (ops : List ℕ). cost_of c.args.task.now c.self.inside.kind ops) c.deref-2.ensures.value ∙ ap (λ (k : CostKind). cost_of c.args.task.now k c.plan_best.new.plan.items) kind))
+    (c.preferred_into.ensures.preferred ∙ ap (λ (ops : List ℕ). filter (is_applicable c.args.task.now c.args.state.now) ops) c.deref.ensures.value)

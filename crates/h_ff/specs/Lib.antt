@@ -1,0 +1,6 @@
+pub mod Best
+pub mod Buffers
+pub mod Orders
+pub mod Passes
+pub mod Ready
+pub mod RelaxedPlans

@@ -1,0 +1,126 @@
+// The FF estimate.
+ghost use Rattle.std.specs.Prelude.{◌≡◌, ◌<◌, ◌≤◌, ◌^◌, [], length, IfOk, OnOk};
+ghost use Rattle.sas_task.specs.States.{IsState};
+ghost use Rattle.relaxed_task.specs.Relaxations.{IsRelaxed};
+ghost use Rattle.h_add.specs.Counts.{AreOnce};
+ghost use Rattle.h_ff.specs.Buffers.{IsReady};
+ghost use Rattle.h_ff.specs.RelaxedPlans.{IsFf};
+
+use crate::buffers::{Buffers, order_best, plan_best};
+use crate::operators::{cost, preferred_into};
+use h_add::Add;
+use lama_num::{Estimate, NoMemory};
+use relaxed_task::Relaxed;
+use sas_task::{CostKind, Task};
+use std::alloc::Global;
+use std::marker::Model;
+
+/// The FF estimate of the states of one task.
+///
+/// `relaxed_plan` and `preferred` speak of the state that was evaluated last. Only `new` takes memory.
+/// A relaxed plan is made from best supporters, unary operators that give a fact for what it costs by
+/// the additive estimate: facts are looked at in the order in which they are found, and each takes the
+/// supporter with the lowest number of those whose conditions were looked at before it.
+///
+/// The estimate is that of Hoffmann and Nebel, "The FF planning system" (2001), with the supporters of
+/// the additive estimate as in Keyder and Geffner, "Heuristics for planning with action costs
+/// revisited" (2008).
+#[derive(Debug, Drop)]
+pub struct Ff {
+    add: Add,
+    kind: CostKind,
+    buffers: Buffers,
+}
+
+impl Model for Ff {
+    ghost use Rattle.h_ff.specs.Ready.{Planner, IsKept};
+
+    ghost Value = { Planner };
+
+    ghost view = { λ f. record { relaxed = f.add.relaxed; kind = f.kind; plan = f.buffers.plan.items; preferred = f.buffers.preferred.items } };
+
+    ghost invariant = { λ f. IsKept f.add.relaxed f.buffers };
+}
+
+/// The buffers for a relaxation.
+fn buffers_for(alloc: Global, relaxed: &Relaxed) -> Result<Buffers, NoMemory>
+    ensures ready { IfOk result (λ buffers. IsReady relaxed.now.facts (length relaxed.now.unaries) buffers) }
+    ensures few { OnOk result ((length relaxed.now.unaries < 2 ^ 32) × (relaxed.now.facts ≤ 4194304)) }
+{
+    let facts = relaxed.facts() as usize;
+    let unaries = relaxed.unary().len();
+    // They are numbered with 32 bits: where there are more, there is no memory for them.
+    if unaries >= 4_294_967_296 {
+        return Err(NoMemory);
+    }
+    Ok(Buffers::new(alloc, facts, unaries)?)
+}
+
+fn planner(add: Add, kind: CostKind, buffers: Buffers) -> Ff
+    requires few_facts { add.relaxed.facts ≤ 4194304 }
+    requires few { length add.relaxed.unaries < 2 ^ 32 }
+    requires once { AreOnce add.relaxed.unaries }
+    requires ready { IsReady add.relaxed.facts (length add.relaxed.unaries) buffers }
+    ensures { result ≡ record { relaxed = add.relaxed; kind = kind; plan = []; preferred = [] } }
+{
+    Ff { add, kind, buffers }
+}
+
+impl Ff {
+    /// The evaluator of a task, with operators that cost what a kind of cost says.
+    pub fn new(alloc: Global, task: &Task, kind: CostKind) -> Result<Ff, NoMemory>
+        ensures task { IfOk result (λ ff. IsRelaxed task.now kind ff.relaxed) }
+        ensures kind { IfOk result (λ ff. ff.kind ≡ kind) }
+        ensures plan { IfOk result (λ ff. ff.plan ≡ []) }
+        ensures preferred { IfOk result (λ ff. ff.preferred ≡ []) }
+    {
+        let add = Add::new(alloc, task, kind)?;
+        let buffers = buffers_for(alloc, add.relaxed())?;
+        Ok(planner(add, kind, buffers))
+    }
+
+    /// The estimate of a state of the task: what the operators of a relaxed plan cost together, each
+    /// once, at most 1,000,000,000. Infinite where the state is dead.
+    pub fn evaluate(&mut self, task: &Task, state: &[u32]) -> Estimate
+        requires { length state.now ≡ length task.now.variables }
+        ensures task { self.new.relaxed ≡ self.old.relaxed }
+        ensures kind { self.new.kind ≡ self.old.kind }
+        ensures answer { IsRelaxed task.now self.old.kind self.old.relaxed → IsState task.now.variables state.now →
+            IsFf task.now self.old.kind state.now result self.new.plan self.new.preferred }
+    {
+        self.buffers.plan.clear();
+        self.buffers.preferred.clear();
+        self.add.evaluate(state);
+        if self.add.is_dead() {
+            return Estimate::Infinite;
+        }
+        order_best(
+            &self.add,
+            state,
+            &mut self.buffers.flags,
+            &mut self.buffers.queues,
+        );
+        plan_best(
+            self.add.relaxed(),
+            &mut self.buffers.flags,
+            &mut self.buffers.queues,
+            &mut self.buffers.plan,
+        );
+        preferred_into(task, state, &self.buffers.plan, &mut self.buffers.preferred);
+        Estimate::Finite(cost(task, self.kind, &self.buffers.plan))
+    }
+
+    /// The operators of the relaxed plan, ascending, each once; none where the state is dead.
+    pub fn relaxed_plan(&self) -> &[u32]
+        ensures { result.now ≡ self.now.plan }
+    {
+        &self.buffers.plan
+    }
+
+    /// Those operators of the relaxed plan that are applicable in the state, ascending.
+    pub fn preferred(&self) -> &[u32]
+        ensures { result.now ≡ self.now.preferred }
+    {
+        &self.buffers.preferred
+    }
+}
