@@ -10,6 +10,3 @@ mod settling;
 
 pub use axioms::Axioms;
 pub use conditions::all_hold;
-
-#[cfg(test)]
-mod tests;

@@ -1,7 +1,5 @@
 pub mod Adding
 pub mod ChildFiles
-pub mod Entries
-pub mod Few
 pub mod Fronts
 pub mod Gathered
 pub mod OneFile

@@ -17,14 +17,13 @@ use Rattle.plan_check.specs.declared.verdicts.PlanFault.TheVariants.{Text, NoOpe
 use Rattle.plan_check.specs.declared.verdicts.Verdict.{Verdict}
 use Rattle.plan_check.specs.declared.verdicts.Verdict.TheVariants.{Good, Bad}
 use Rattle.plan_check.specs.Verdicts.{only_if, or_fault, has_name, state_after, reaches_goal, no_choice, choice, chosen_from, chosen, cheaper, compared, plan_in, plan_of, as_text, as_verdict, verdict_of}
-use Rattle.plan_check.specs.GoodPlans.{IsJudged}
+use Rattle.plan_check.specs.GoodPlans.{IsJudged, HasFewSteps}
 use Rattle.driver_core.specs.Keeping.{is_below}
 use Rattle.candidates.specs.declared.reading.Whole.{Whole}
 use Rattle.candidates.specs.declared.reading.Whole.TheVariants as whole
 use Rattle.candidates.specs.Collecting.{real_cost}
 use Rattle.candidates.specs.Whole.{whole_of}
 use Rattle.candidates.specs.Gathering.{IsSound, IsByBound}
-use Rattle.candidates.proofs.Few.{few_steps}
 
 -- no fault of a cost that isn't below the bound
 abbrev IsPlain : {A : Type 0} → Result A PlanFault → Type 0
@@ -116,14 +115,14 @@ unfolding verdict_of plan_of
 fair_verdict parts bytes bound = fair_plain bound (as_text (plan_lines_of bytes)) (plan_in parts bound) (plain_text (plan_lines_of bytes)) (λ lines. fair_plan parts bound lines)
 
 -- what is judged good is a plan
-pub sound_verdict : (parts : Parts) (bytes : List ℕ) (bound : Option ℕ) (verdict : Verdict) → IsJudged parts bytes bound verdict → IsSound parts verdict
-sound_verdict parts bytes bound (Good ops cost) judged = record {
+pub sound_verdict : (parts : Parts) (bytes : List ℕ) (bound : Option ℕ) (verdict : Verdict) → IsJudged parts bytes bound verdict → HasFewSteps verdict → IsSound parts verdict
+sound_verdict parts bytes bound (Good ops cost) judged few = record {
   plan = judged.plan;
   cost_is = judged.cost_is;
   operators = judged.operators;
-  few = omega (arith, judged.chosen.long, few_steps bytes judged.lines judged.text);
+  few = omega (arith, few);
 }
-sound_verdict parts bytes bound (Bad fault) judged = tt
+sound_verdict parts bytes bound (Bad fault) judged few = tt
 
 -- a text that is too long
 pub too_long_verdict : (parts : Parts) (bytes : List ℕ) (bound : Option ℕ) → 67108864 < length bytes → verdict_of parts bytes bound ≡ Bad (Text TooLong)

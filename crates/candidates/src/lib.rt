@@ -6,9 +6,6 @@ mod judging;
 mod keeping;
 mod offers;
 mod reading;
-#[cfg(test)]
-mod tests;
-
 pub use collecting::collect;
 pub use offers::{Candidate, Found};
 pub use reading::{ReadError, Whole, read_whole};

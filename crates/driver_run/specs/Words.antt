@@ -1,5 +1,6 @@
 -- Which command lines are accepted.
 use Rattle.std.specs.Prelude.{ℕ, List, [], ◌∷◌, length, take, drop, Bool, true, false, nat_eq, nat_le, not, ◌&&◌, ◌||◌, if◌then◌else◌, Option, Some, None, Result, Ok, Err, codes, decimal}
+use Rattle.std.specs.Char.{is_ascii_digit}
 use Rattle.std.specs.List.{list_all}
 use Rattle.std.specs.Str.{bytes_eq}
 use Rattle.lama_num.specs.Decimals.{decimal_of}
@@ -26,12 +27,9 @@ is_plan_number digits = numbers (decimal_of digits)
     numbers None = false
     numbers (Some n) = nat_le 1 n && (nat_le n 9999 && bytes_eq digits (decimal n))
 
-abbrev pub is_digit : ℕ → Bool
-is_digit b = nat_le 48 b && nat_le b 57
-
 abbrev pub begins_with_digit : List ℕ → Bool
 begins_with_digit [] = false
-begins_with_digit (b ∷ bs) = is_digit b
+begins_with_digit (b ∷ bs) = is_ascii_digit b
 
 -- c and a digit, as the files of a child begin behind the dot
 abbrev pub is_of_child : List ℕ → Bool

@@ -10,6 +10,3 @@ mod words;
 pub use candidates::{Candidate, Found, ReadError, Whole, read_whole};
 pub use report::{Ended, EntryEnd, Input, Outcome, Report, Why, WordsFault};
 pub use running::run;
-
-#[cfg(test)]
-mod tests;

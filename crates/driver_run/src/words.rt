@@ -2,7 +2,7 @@
 ghost use Rattle.std.specs.Prelude.{◌≡◌, ◌<◌, map, string_bytes, not, nat_eq};
 ghost use Rattle.std.specs.List.{list_all};
 ghost use Rattle.std.specs.Result.{result_map_both};
-ghost use Rattle.driver_run.specs.Words.{line_of, task_name as the_task_name, is_task_name as task_name_test, begins_with_dash as dash_test, is_plan_number as number_test, is_digit as digit_test, begins_with_digit as first_digit_test, is_of_child as child_test, is_own_ending as ending_test, is_own_name as own_test, base_name};
+ghost use Rattle.driver_run.specs.Words.{line_of, task_name as the_task_name, is_task_name as task_name_test, begins_with_dash as dash_test, is_plan_number as number_test, begins_with_digit as first_digit_test, is_of_child as child_test, is_own_ending as ending_test, is_own_name as own_test, base_name};
 
 use crate::report::WordsFault;
 use itoa::Buffer;
@@ -41,17 +41,11 @@ fn is_plan_number(digits: &[u8]) -> bool
     }
 }
 
-fn is_digit(b: u8) -> bool
-    ensures { result ≡ digit_test b }
-{
-    b'0' <= b && b <= b'9'
-}
-
 fn begins_with_digit(bytes: &[u8]) -> bool
     ensures { result ≡ first_digit_test bytes.now }
 {
     match bytes.first() {
-        Some(b) => is_digit(*b),
+        Some(b) => b.is_ascii_digit(),
         None => false,
     }
 }

@@ -18,6 +18,3 @@ mod tables;
 pub use add::Add;
 pub use rows::{Rows, Span};
 pub use tables::Tables;
-
-#[cfg(test)]
-mod tests;

@@ -1,5 +1,5 @@
 -- What a good file shows.
-use Rattle.std.specs.Prelude.{◌≡◌, ℕ, ◌<◌, List, length, slice_index, IfSome, Option, Ok}
+use Rattle.std.specs.Prelude.{◌≡◌, ℕ, ◌<◌, ◌≤◌, List, length, slice_index, IfSome, Option, Ok}
 use Rattle.sas_task.specs.declared.contents.Parts.{Parts}
 use Rattle.sas_task.specs.Runs.{IsPlan, cost_of}
 use Rattle.sas_task.specs.Costs.{is_unit_cost}
@@ -25,3 +25,8 @@ pub record IsGoodPlan (parts : Parts) (bytes : List ℕ) (bound : Option ℕ) (o
 abbrev pub IsJudged : Parts → List ℕ → Option ℕ → Verdict → Type 0
 IsJudged parts bytes bound (Good ops cost) = IsGoodPlan parts bytes bound ops cost
 IsJudged parts bytes bound (Bad fault) = Unit {0}
+
+-- no more steps than the bytes of a plan file
+abbrev pub HasFewSteps : Verdict → Type 0
+HasFewSteps (Good ops cost) = length ops ≤ 67108864
+HasFewSteps (Bad fault) = Unit {0}

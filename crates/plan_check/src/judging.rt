@@ -2,7 +2,7 @@
 ghost use Rattle.std.specs.Prelude.{◌≡◌, ◌≤◌, length, IfOk};
 ghost use Rattle.lama_num.specs.Gives.{Gives};
 ghost use Rattle.plan_text.specs.PlanLines.{plan_lines_of};
-ghost use Rattle.plan_check.specs.GoodPlans.{IsJudged};
+ghost use Rattle.plan_check.specs.GoodPlans.{IsJudged, HasFewSteps};
 ghost use Rattle.plan_check.specs.Refusals.{fault_of};
 ghost use Rattle.plan_check.specs.Verdicts.{as_text, compared, plan_in as the_plan_in, plan_of as the_plan, verdict_of};
 
@@ -65,7 +65,8 @@ fn plan_in(
     bound: Option<u64>,
 ) -> Result<Plan, Refusal>
     requires { length lines.now.names ≤ 67108864 }
-    ensures { Gives fault_of (λ plan. (plan.ops.items, plan.cost)) result (the_plan_in task.now bound lines.now) }
+    ensures plan { Gives fault_of (λ plan. (plan.ops.items, plan.cost)) result (the_plan_in task.now bound lines.now) }
+    ensures few { IfOk result (λ plan. length plan.ops.items ≤ 67108864) }
 {
     let mut ops = Vec::new(alloc);
     let reached = choose(alloc, task, &lines.names, &mut ops)?;
@@ -82,7 +83,8 @@ fn plan_in(
 
 #[tactic(auto, unfolding(crate::specs::Verdicts::plan_of))]
 fn plan_of(alloc: Global, task: &Task, bytes: &[u8], bound: Option<u64>) -> Result<Plan, Refusal>
-    ensures { Gives fault_of (λ plan. (plan.ops.items, plan.cost)) result (the_plan task.now bound bytes.now) }
+    ensures plan { Gives fault_of (λ plan. (plan.ops.items, plan.cost)) result (the_plan task.now bound bytes.now) }
+    ensures few { IfOk result (λ plan. length plan.ops.items ≤ 67108864) }
 {
     let lines = read(alloc, bytes)?;
     plan_in(alloc, task, &lines, bound)
@@ -105,6 +107,8 @@ pub fn judge(
     ensures exact { IfOk result (λ verdict. verdict ≡ verdict_of task.now bytes.now bound) }
     // Where it is good, the bytes are the text of a plan of that cost.
     ensures good { IfOk result (λ verdict. IsJudged task.now bytes.now bound verdict) }
+    // There are no more steps than a text may have bytes.
+    ensures few { IfOk result (λ verdict. HasFewSteps verdict) }
 {
     match plan_of(alloc, task, bytes, bound) {
         Ok(plan) => Ok(Verdict::Good {

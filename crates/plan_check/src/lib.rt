@@ -14,6 +14,3 @@ mod verdicts;
 pub use judging::judge;
 pub use law::operators_are_chosen_in_one_way;
 pub use verdicts::{PlanFault, Verdict};
-
-#[cfg(test)]
-mod tests;

@@ -13,6 +13,3 @@ mod text;
 pub use clearing::{clear, clear_child};
 pub use keeping::keep;
 pub use sealing::seal;
-
-#[cfg(test)]
-mod tests;

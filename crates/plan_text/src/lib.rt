@@ -14,6 +14,3 @@ pub use faults::{PlanTextError, PlanTextFault};
 pub use law::written_is_read_back;
 pub use reading::{PlanLines, lines};
 pub use writing::write;
-
-#[cfg(test)]
-mod tests;

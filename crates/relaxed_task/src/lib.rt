@@ -4,8 +4,6 @@
 mod conditions;
 mod making;
 mod relaxation;
-#[cfg(test)]
-mod tests;
 mod unary;
 
 pub use relaxation::{Lists, Relaxed};

@@ -17,6 +17,3 @@ mod variables;
 
 pub use faults::{SasError, SasFault, Want};
 pub use reader::read;
-
-#[cfg(test)]
-mod tests;

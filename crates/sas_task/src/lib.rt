@@ -15,8 +15,6 @@ mod plans;
 mod refusals;
 mod rules;
 mod task;
-#[cfg(test)]
-mod tests;
 
 pub use checking::check;
 pub use contents::{CostKind, Effect, Fact, Operator, Parts, Rule, Variable};

@@ -10,6 +10,3 @@ mod stepper;
 
 pub use runs::RunEnd;
 pub use stepper::Stepper;
-
-#[cfg(test)]
-mod tests;

@@ -9,7 +9,7 @@ returns-in-TooLong-clause-exact g c files idle held =
     too_long_told c.args.task.now c.args.bound (get files c.args.name.now) _ c.in-TooLong.is (c.in_ok-read_whole.ensures.exact files idle held)
 
 pub returns-in-Ok-clause-sound : goal.returns-in-Ok-clause-sound
-returns-in-Ok-clause-sound g c = sound_verdict c.args.task.now _ c.args.bound _ c.in-Ok.ensures.good
+returns-in-Ok-clause-sound g c = sound_verdict c.args.task.now _ c.args.bound _ c.in-Ok.ensures.good c.in-Ok.ensures.few
 
 pub returns-in-Ok-clause-bound : goal.returns-in-Ok-clause-bound
 returns-in-Ok-clause-bound g c = subst (IsByBound c.args.bound) (sym c.in-Ok.ensures.exact) (fair_verdict c.args.task.now _ c.args.bound)

@@ -1,0 +1,101 @@
+// The delivery task: a truck brings packages along a road.
+use crate::failure::Failure;
+use lama_num::Seq;
+use sas_task::{Fact, Operator, Parts, Task, Variable, check};
+use std::alloc::{AllocError, Global};
+use test_tasks::{fact, facts, giving, variable};
+
+/// The truck is variable 0, and package k is variable k; the value after the places is "in the truck".
+fn variables(alloc: Global, packages: u32) -> Result<Seq<Variable>, AllocError> {
+    let mut variables = Seq::new(alloc);
+    variables.push(variable(alloc, None, packages.saturating_add(1))?)?;
+    for _ in 0..packages {
+        variables.push(variable(alloc, None, packages.saturating_add(2))?)?;
+    }
+    Ok(variables)
+}
+
+/// A place that a package has by its number, of so many places.
+fn place(package: u32, factor: u32, shift: u32, places: u32) -> u32 {
+    package.wrapping_mul(factor).wrapping_add(shift) % places.max(1)
+}
+
+fn init(alloc: Global, packages: u32) -> Result<Seq<u32>, AllocError> {
+    let mut init = Seq::new(alloc);
+    init.push(0)?;
+    for package in 0..packages {
+        init.push(place(package, 7, 10, packages.saturating_add(1)))?;
+    }
+    Ok(init)
+}
+
+fn goal(alloc: Global, packages: u32) -> Result<Seq<Fact>, AllocError> {
+    let mut goal = Seq::new(alloc);
+    for package in 0..packages {
+        let at = place(package, 5, 6, packages.saturating_add(1));
+        goal.push(fact(package.saturating_add(1), at))?;
+    }
+    Ok(goal)
+}
+
+/// The truck moves to the next place, and back.
+fn add_moves(
+    alloc: Global,
+    operators: &mut Seq<Operator>,
+    packages: u32,
+) -> Result<(), AllocError> {
+    for here in 0..packages {
+        let next = here.saturating_add(1);
+        operators.push(giving(alloc, &[fact(0, here)], fact(0, next), 1)?)?;
+        operators.push(giving(alloc, &[fact(0, next)], fact(0, here), 1)?)?;
+    }
+    Ok(())
+}
+
+/// A package is loaded and unloaded at each place.
+fn add_loads(
+    alloc: Global,
+    operators: &mut Seq<Operator>,
+    package: u32,
+    places: u32,
+) -> Result<(), AllocError> {
+    for place in 0..places {
+        let truck = fact(0, place);
+        let there = fact(package, place);
+        let inside = fact(package, places);
+        operators.push(giving(alloc, &[truck, there], inside, 1)?)?;
+        operators.push(giving(alloc, &[truck, inside], there, 1)?)?;
+    }
+    Ok(())
+}
+
+fn operators(alloc: Global, packages: u32) -> Result<Seq<Operator>, AllocError> {
+    let mut operators = Seq::new(alloc);
+    add_moves(alloc, &mut operators, packages)?;
+    for package in 0..packages {
+        add_loads(
+            alloc,
+            &mut operators,
+            package.saturating_add(1),
+            packages.saturating_add(1),
+        )?;
+    }
+    Ok(operators)
+}
+
+/// The delivery task of so many packages.
+pub fn delivery(alloc: Global, packages: u32) -> Result<Task, Failure> {
+    let variables = variables(alloc, packages)?;
+    let init = init(alloc, packages)?;
+    let goal = goal(alloc, packages)?;
+    let operators = operators(alloc, packages)?;
+    Ok(check(Parts {
+        metric: false,
+        variables,
+        groups: Seq::new(alloc),
+        init,
+        goal,
+        operators,
+        rules: Seq::new(alloc),
+    })?)
+}

@@ -1,0 +1,81 @@
+//! Times the estimates of the relaxation: `relaxation_bench PACKAGES ADDITIVE FF`.
+//!
+//! It makes the delivery task of so many packages, evaluates the initial state so many times by the
+//! additive estimate and so many times by FF, and prints the size of the task and the estimates. What
+//! one evaluation takes is the difference of two runs.
+#![tactic(auto)]
+
+mod delivery;
+mod failure;
+
+use delivery::delivery;
+use failure::Failure;
+use h_add::Add;
+use h_ff::Ff;
+use lama_num::Estimate;
+use sas_task::{CostKind, Task};
+use std::alloc::Global;
+use std::env;
+use std::io::Print;
+use std::rt::Env;
+
+/// What is measured: a size, and how many evaluations.
+#[derive(Clone, Copy, Debug)]
+struct Measured {
+    packages: u32,
+    additive: u32,
+    ff: u32,
+}
+
+/// A word of the command line as a number, where it is one.
+fn number(words: &[String], place: usize) -> Option<u32> {
+    words.get(place)?.as_str().parse().ok()
+}
+
+fn work(words: &[String]) -> Option<Measured> {
+    Some(Measured {
+        packages: number(words, 1)?,
+        additive: number(words, 2)?,
+        ff: number(words, 3)?,
+    })
+}
+
+/// The additive estimate of the initial state, evaluated so many times.
+fn additive(alloc: Global, task: &Task, times: u32) -> Result<Estimate, Failure> {
+    let mut add = Add::new(alloc, task, CostKind::Normal)?;
+    for _ in 0..times {
+        add.evaluate(&task.parts().init);
+    }
+    Ok(add.goal_value())
+}
+
+/// The FF estimate of the initial state, evaluated so many times.
+fn ff(alloc: Global, task: &Task, times: u32) -> Result<Estimate, Failure> {
+    let mut ff = Ff::new(alloc, task, CostKind::Normal)?;
+    let mut value = Estimate::Infinite;
+    for _ in 0..times {
+        value = ff.evaluate(task, &task.parts().init);
+    }
+    Ok(value)
+}
+
+fn measure(rt: &(impl Print + AllocGlobal), work: Measured) -> Result<(), Failure> {
+    let task = delivery(rt.alloc(), work.packages)?;
+    let additive = additive(rt.alloc(), &task, work.additive)?;
+    let ff = ff(rt.alloc(), &task, work.ff)?;
+    println!(rt; "operators {}", task.parts().operators.len())?;
+    println!(rt; "additive {additive:?}")?;
+    println!(rt; "ff {ff:?}")?;
+    Ok(())
+}
+
+fn words(rt: &(impl Env + AllocGlobal)) -> Result<Vec<String>, Failure> {
+    Ok(env::args(rt)?.collect(rt.alloc())?)
+}
+
+fn main(rt: HostRuntime) -> Result<(), Failure> {
+    match work(&words(&rt)?) {
+        Some(work) => measure(&rt, work),
+        None => Err(Failure::Words),
+    }
+}

@@ -1,0 +1,112 @@
+// Small tasks at random: three variables of three values, and two derived ones in two layers.
+use lama_num::Seq;
+use rand_core::utils::NextWord;
+use rand_pcg::Pcg32;
+use sas_task::{Effect, Fact, Operator, Parts, Rule, Task, TaskError, Variable, check};
+use std::alloc::{AllocError, Global};
+use std::test::Fail;
+use test_tasks::{effect, fact, operator, rule, variable};
+
+pub fn below(dice: &mut Pcg32, end: u32) -> u32 {
+    dice.next_word() % end.max(1)
+}
+
+fn plain_fact(dice: &mut Pcg32) -> Fact {
+    let var = below(dice, 3);
+    fact(var, below(dice, 3))
+}
+
+/// How many values a variable has.
+pub fn values_of(var: u32) -> u32 {
+    if var < 3 { 3 } else { 2 }
+}
+
+/// A fact of any variable; the last two are derived.
+fn any_fact(dice: &mut Pcg32) -> Fact {
+    if below(dice, 3) > 0 {
+        return plain_fact(dice);
+    }
+    let var = below(dice, 2);
+    fact(var.saturating_add(3), below(dice, 2))
+}
+
+/// Fewer than so many facts of any variables, with repeats.
+pub fn some_facts(alloc: Global, dice: &mut Pcg32, end: u32) -> Result<Vec<Fact>, AllocError> {
+    let mut list = Vec::new(alloc);
+    for _ in 0..below(dice, end) {
+        list.push(any_fact(dice))?;
+    }
+    Ok(list)
+}
+
+fn variables(alloc: Global) -> Result<Seq<Variable>, AllocError> {
+    let mut variables = Seq::new(alloc);
+    for _ in 0..3 {
+        variables.push(variable(alloc, None, 3)?)?;
+    }
+    variables.push(variable(alloc, Some(0), 2)?)?;
+    variables.push(variable(alloc, Some(1), 2)?)?;
+    Ok(variables)
+}
+
+/// Values for all variables.
+pub fn state(alloc: Global, dice: &mut Pcg32, derived: u32) -> Result<Vec<u32>, AllocError> {
+    let mut values = Vec::new(alloc);
+    for _ in 0..3 {
+        values.push(below(dice, 3))?;
+    }
+    for _ in 0..2 {
+        values.push(below(dice, derived))?;
+    }
+    Ok(values)
+}
+
+fn effects(alloc: Global, dice: &mut Pcg32) -> Result<Seq<Effect>, AllocError> {
+    let mut effects = Seq::new(alloc);
+    for _ in 0..below(dice, 3) {
+        let conds = some_facts(alloc, dice, 3)?;
+        effects.push(effect(alloc, &conds, plain_fact(dice))?)?;
+    }
+    Ok(effects)
+}
+
+fn operators(alloc: Global, dice: &mut Pcg32) -> Result<Seq<Operator>, AllocError> {
+    let mut operators = Seq::new(alloc);
+    for _ in 0..6 {
+        let pre = some_facts(alloc, dice, 3)?;
+        let effects = effects(alloc, dice)?;
+        operators.push(operator(alloc, &pre, effects, below(dice, 4))?)?;
+    }
+    Ok(operators)
+}
+
+fn rules(alloc: Global, dice: &mut Pcg32) -> Result<Seq<Rule>, AllocError> {
+    let mut rules = Seq::new(alloc);
+    for _ in 0..below(dice, 3) {
+        let first = plain_fact(dice);
+        rules.push(rule(alloc, &[first, plain_fact(dice)], fact(3, 1))?)?;
+    }
+    for _ in 0..below(dice, 3) {
+        let lower = fact(3, below(dice, 2));
+        rules.push(rule(alloc, &[plain_fact(dice), lower, lower], fact(4, 1))?)?;
+    }
+    Ok(rules)
+}
+
+pub fn random_task(alloc: Global, dice: &mut Pcg32) -> Result<Task, Fail> {
+    let variables = variables(alloc)?;
+    let init = Seq::from(state(alloc, dice, 1)?);
+    let goal = Seq::from(some_facts(alloc, dice, 4)?);
+    let operators = operators(alloc, dice)?;
+    let rules = rules(alloc, dice)?;
+    let task = check(Parts {
+        metric: true,
+        variables,
+        groups: Seq::new(alloc),
+        init,
+        goal,
+        operators,
+        rules,
+    })?;
+    Ok(task)
+}

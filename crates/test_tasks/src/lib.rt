@@ -1,0 +1,11 @@
+//! Small tasks for tests, as texts in the translator's output format, and parts of others.
+#![tactic(auto)]
+
+mod parts;
+mod texts;
+
+pub use parts::{effect, fact, facts, giving, operator, rule, variable};
+pub use texts::{
+    at_the_goal, cut_short, door, free_moves, no_operator, one_name, rivals, same_names, swap,
+    three_places, two_conditions, two_layers, wide_derived,
+};
