@@ -6,6 +6,7 @@ mod judging;
 mod keeping;
 mod offers;
 mod reading;
+
 pub use collecting::collect;
 pub use offers::{Candidate, Found};
 pub use reading::{ReadError, Whole, read_whole};

@@ -1,6 +1,8 @@
 // The FF estimate.
-ghost use Rattle.std.specs.Prelude.{◌≡◌, ◌<◌, ◌≤◌, ◌^◌, [], length, IfOk, OnOk};
+ghost use Rattle.std.specs.Prelude.{◌≡◌, ◌<◌, ◌≤◌, ◌^◌, ℕ, List, [], length, false, Some, IfOk, OnOk};
+ghost use Rattle.sas_task.specs.Runs.{end_of, is_goal};
 ghost use Rattle.sas_task.specs.States.{IsState};
+ghost use Rattle.sas_task.specs.WellFormed.{IsWellFormed};
 ghost use Rattle.relaxed_task.specs.Relaxations.{IsRelaxed};
 ghost use Rattle.h_add.specs.Counts.{AreOnce};
 ghost use Rattle.h_ff.specs.Buffers.{IsReady};
@@ -80,13 +82,16 @@ impl Ff {
     }
 
     /// The estimate of a state of the task: what the operators of a relaxed plan cost together, each
-    /// once, at most 1,000,000,000. Infinite where the state is dead.
+    /// once, at most 1,000,000,000. Infinite where the state is dead: then no operators lead from it to
+    /// a state where the goal holds.
     pub fn evaluate(&mut self, task: &Task, state: &[u32]) -> Estimate
         requires { length state.now ≡ length task.now.variables }
         ensures task { self.new.relaxed ≡ self.old.relaxed }
         ensures kind { self.new.kind ≡ self.old.kind }
         ensures answer { IsRelaxed task.now self.old.kind self.old.relaxed → IsState task.now.variables state.now →
             IsFf task.now self.old.kind state.now result self.new.plan self.new.preferred }
+        ensures safe { (ops last : List ℕ) → IsRelaxed task.now self.old.kind self.old.relaxed → IsWellFormed task.now → IsState task.now.variables state.now →
+            result ≡ Estimate.Infinite → end_of task.now state.now ops ≡ Some last → is_goal task.now last ≡ false }
     {
         self.buffers.plan.clear();
         self.buffers.preferred.clear();

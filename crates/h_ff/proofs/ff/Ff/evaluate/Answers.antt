@@ -31,3 +31,11 @@ returns-clause-answer c task of =
     (subst (λ (l : Lists). AreOperatorsOf (kept l.goals (chosen l.unaries c.order_best.new.queues.order.items)) c.plan_best.new.plan.items) c.relaxed.ensures c.plan_best.ensures.operators)
     (c.cost.ensures ∙ (ap (λ (ops : List ℕ). cost_of c.args.task.now c.self.inside.kind ops) c.deref-2.ensures.value ∙ ap (λ (k : CostKind). cost_of c.args.task.now k c.plan_best.new.plan.items) kind))
     (c.preferred_into.ensures.preferred ∙ ap (λ (ops : List ℕ). filter (is_applicable c.args.task.now c.args.state.now) ops) c.deref.ensures.value)
+
+pub returns-then-is_dead-clause-safe : goal.returns-then-is_dead-clause-safe
+returns-then-is_dead-clause-safe c ops last task formed of infinite leads =
+    let own : c.self.inside.add.relaxed ≡ c.args.self.now.relaxed = ap (λ (p : Planner). p.relaxed) c.self.view_is in
+    let is : IsRelaxed c.args.task.now c.args.self.now.kind c.evaluate.new.self.relaxed = relaxed_as _ _ _ _ (c.evaluate.ensures.task ∙ own) task in
+    let evaluated : IsEvaluated c.args.task.now c.args.self.now.kind c.args.state.now [] c.evaluate.new.self.costs =
+    c.evaluate.ensures.costs c.args.task.now c.args.self.now.kind (relaxed_as _ _ _ _ own task) of in
+    c.is_dead.ensures.safe c.args.task.now c.args.self.now.kind c.args.state.now ops last is evaluated formed of c.if-is_dead.true leads
