@@ -1,4 +1,5 @@
 // Additive costs that were worked by hand.
+use crate::calls::{additive, evaluate, evaluate_without};
 use crate::moves::moves;
 use h_add::Add;
 use lama_num::Estimate;
@@ -20,8 +21,8 @@ fn expect_goal(rt: &impl Abort, add: &Add, value: Estimate, dead: bool) {
 #[test]
 fn moves_that_cost_nothing(rt: HostRuntime) -> Result<(), Fail> {
     let task = read(rt.alloc(), free_moves().as_bytes())?;
-    let mut add = Add::new(rt.alloc(), &task, CostKind::Normal)?;
-    add.evaluate(&[0]);
+    let mut add = additive(rt.alloc(), &task, CostKind::Normal)?;
+    evaluate(&mut add, &[0]);
     expect_value(&rt, &add, fact(0, 0), Estimate::Finite(0));
     expect_value(&rt, &add, fact(0, 1), Estimate::Finite(0));
     expect_value(&rt, &add, fact(0, 2), Estimate::Finite(3));
@@ -35,12 +36,12 @@ fn moves_that_cost_nothing(rt: HostRuntime) -> Result<(), Fail> {
 #[test]
 fn facts_that_are_left_out(rt: HostRuntime) -> Result<(), Fail> {
     let task = moves(rt.alloc(), 4, 3, 2)?;
-    let mut add = Add::new(rt.alloc(), &task, CostKind::Normal)?;
-    add.evaluate_without(&[0], &[fact(0, 1)]);
+    let mut add = additive(rt.alloc(), &task, CostKind::Normal)?;
+    evaluate_without(&mut add, &[0], &[fact(0, 1)]);
     expect_value(&rt, &add, fact(0, 0), Estimate::Finite(0));
     expect_value(&rt, &add, fact(0, 1), Estimate::Infinite);
     expect_goal(&rt, &add, Estimate::Infinite, true);
-    add.evaluate(&[0]);
+    evaluate(&mut add, &[0]);
     expect_value(&rt, &add, fact(0, 1), Estimate::Finite(4));
     expect_goal(&rt, &add, Estimate::Finite(7), false);
     Ok(())
@@ -49,11 +50,11 @@ fn facts_that_are_left_out(rt: HostRuntime) -> Result<(), Fail> {
 #[test]
 fn a_state_from_which_no_operator_goes_on(rt: HostRuntime) -> Result<(), Fail> {
     let task = moves(rt.alloc(), 4, 3, 2)?;
-    let mut add = Add::new(rt.alloc(), &task, CostKind::One)?;
-    add.evaluate(&[2]);
+    let mut add = additive(rt.alloc(), &task, CostKind::One)?;
+    evaluate(&mut add, &[2]);
     expect_value(&rt, &add, fact(0, 1), Estimate::Infinite);
     expect_goal(&rt, &add, Estimate::Finite(0), false);
-    add.evaluate(&[1]);
+    evaluate(&mut add, &[1]);
     expect_value(&rt, &add, fact(0, 0), Estimate::Finite(1));
     expect_goal(&rt, &add, Estimate::Finite(1), false);
     Ok(())
@@ -62,8 +63,8 @@ fn a_state_from_which_no_operator_goes_on(rt: HostRuntime) -> Result<(), Fail> {
 #[test]
 fn costs_that_reach_the_largest(rt: HostRuntime) -> Result<(), Fail> {
     let task = moves(rt.alloc(), 2_147_483_647, 999_999_999, 2)?;
-    let mut add = Add::new(rt.alloc(), &task, CostKind::PlusOne)?;
-    add.evaluate(&[0]);
+    let mut add = additive(rt.alloc(), &task, CostKind::PlusOne)?;
+    evaluate(&mut add, &[0]);
     expect_value(&rt, &add, fact(0, 1), Estimate::Finite(1_000_000_000));
     expect_goal(&rt, &add, Estimate::Finite(1_000_000_000), false);
     Ok(())
@@ -72,11 +73,11 @@ fn costs_that_reach_the_largest(rt: HostRuntime) -> Result<(), Fail> {
 #[test]
 fn a_door_that_must_be_shut_again(rt: HostRuntime) -> Result<(), Fail> {
     let task = read(rt.alloc(), door().as_bytes())?;
-    let mut add = Add::new(rt.alloc(), &task, CostKind::Normal)?;
-    add.evaluate(&[1, 0, 1]);
+    let mut add = additive(rt.alloc(), &task, CostKind::Normal)?;
+    evaluate(&mut add, &[1, 0, 1]);
     expect_value(&rt, &add, fact(2, 0), Estimate::Finite(0));
     expect_goal(&rt, &add, Estimate::Finite(1), false);
-    add.evaluate(&[0, 0, 0]);
+    evaluate(&mut add, &[0, 0, 0]);
     expect_goal(&rt, &add, Estimate::Infinite, true);
     Ok(())
 }
@@ -84,11 +85,11 @@ fn a_door_that_must_be_shut_again(rt: HostRuntime) -> Result<(), Fail> {
 #[test]
 fn operators_without_conditions(rt: HostRuntime) -> Result<(), Fail> {
     let task = read(rt.alloc(), rivals().as_bytes())?;
-    let mut add = Add::new(rt.alloc(), &task, CostKind::Normal)?;
-    add.evaluate(&[0, 0]);
+    let mut add = additive(rt.alloc(), &task, CostKind::Normal)?;
+    evaluate(&mut add, &[0, 0]);
     expect_value(&rt, &add, fact(0, 1), Estimate::Finite(1));
     expect_goal(&rt, &add, Estimate::Finite(2), false);
-    add.evaluate_without(&[0, 0], &[fact(1, 1), fact(0, 0)]);
+    evaluate_without(&mut add, &[0, 0], &[fact(1, 1), fact(0, 0)]);
     expect_value(&rt, &add, fact(0, 0), Estimate::Infinite);
     expect_goal(&rt, &add, Estimate::Infinite, true);
     Ok(())

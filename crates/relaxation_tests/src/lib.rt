@@ -4,6 +4,8 @@
 #[cfg(test)]
 mod additive;
 #[cfg(test)]
+mod calls;
+#[cfg(test)]
 mod moves;
 #[cfg(test)]
 mod plain_rounds;

@@ -1,9 +1,9 @@
 // Relaxed plans that were worked by hand.
+use crate::calls::{ff, ff_value};
 use crate::moves::moves;
-use h_ff::Ff;
 use lama_num::Estimate;
 use sas_reader::read;
-use sas_task::{CostKind, Task};
+use sas_task::Task;
 use std::process::Abort;
 use std::test::Fail;
 use test_tasks::{door, free_moves, rivals};
@@ -17,9 +17,8 @@ fn expect_ff(
     plan: &[u32],
     preferred: &[u32],
 ) -> Result<(), Fail> {
-    let mut ff = Ff::new(rt.alloc(), task, CostKind::Normal)?;
-    assert!(rt; state.len() == task.parts().variables.len());
-    assert_eq!(rt; ff.evaluate(task, state), value);
+    let mut ff = ff(rt.alloc(), task)?;
+    assert_eq!(rt; ff_value(rt, &mut ff, task, state), value);
     assert!(rt; ff.relaxed_plan() == plan);
     assert!(rt; ff.preferred() == preferred);
     Ok(())

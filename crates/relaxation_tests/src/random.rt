@@ -1,4 +1,5 @@
 // The additive costs of random tasks, against plain rounds.
+use crate::calls::{additive, evaluate, evaluate_without};
 use crate::plain_rounds::{UNREACHED, cost_of, plain_rounds, sum_once};
 use crate::random_tasks::{below, random_task, some_facts, state, values_of};
 use h_add::Add;
@@ -47,11 +48,11 @@ fn compare(rt: &(impl Abort + AllocGlobal), dice: &mut Pcg32) -> Result<bool, Fa
     let kind = kind_of(below(dice, 3));
     let state = state(alloc, dice, 2)?;
     let without = some_facts(alloc, dice, 3)?;
-    let mut add = Add::new(alloc, &task, kind)?;
-    add.evaluate_without(&state, &without);
+    let mut add = additive(alloc, &task, kind)?;
+    evaluate_without(&mut add, &state, &without);
     let costs = plain_rounds(alloc, &task, kind, &state, &without)?;
     expect_costs(rt, &add, &task.parts().goal, &costs);
-    add.evaluate(&state);
+    evaluate(&mut add, &state);
     let costs = plain_rounds(alloc, &task, kind, &state, &[])?;
     expect_costs(rt, &add, &task.parts().goal, &costs);
     Ok(add.is_dead())

@@ -1,4 +1,5 @@
 // Unary operators that were worked by hand.
+use crate::calls::relaxed;
 use relaxed_task::{Relaxed, Unary};
 use sas_reader::read;
 use sas_task::{CostKind, Fact, Task};
@@ -59,7 +60,7 @@ fn expect(
     kind: CostKind,
     rows: &[Row],
 ) -> Result<Relaxed, Fail> {
-    let relaxed = Relaxed::new(alloc, task, kind)?;
+    let relaxed = relaxed(alloc, task, kind)?;
     assert!(rt; are_rows(relaxed.unary(), rows));
     Ok(relaxed)
 }
