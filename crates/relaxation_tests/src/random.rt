@@ -5,7 +5,7 @@ use crate::random_tasks::{below, random_task, some_facts, state, values_of};
 use h_add::Add;
 use lama_num::Estimate;
 use rand_pcg::Pcg32;
-use sas_task::{CostKind, Fact};
+use sas_task::{CostKind, Fact, Task};
 use std::process::Abort;
 use std::test::Fail;
 use test_tasks::fact;
@@ -40,22 +40,45 @@ fn kind_of(number: u32) -> CostKind {
     }
 }
 
+/// Compares the costs of a state of a task without some facts.
+fn compare_without(
+    rt: &(impl Abort + AllocGlobal),
+    add: &mut Add,
+    task: &Task,
+    kind: CostKind,
+    state: &[u32],
+    without: &[Fact],
+) -> Result<(), Fail> {
+    evaluate_without(add, state, without);
+    let costs = plain_rounds(rt.alloc(), task, kind, state, without)?;
+    expect_costs(rt, add, &task.parts().goal, &costs);
+    Ok(())
+}
+
+/// Compares the costs of a state of a task. Answers whether the state is dead.
+fn compare_whole(
+    rt: &(impl Abort + AllocGlobal),
+    add: &mut Add,
+    task: &Task,
+    kind: CostKind,
+    state: &[u32],
+) -> Result<bool, Fail> {
+    evaluate(add, state);
+    let costs = plain_rounds(rt.alloc(), task, kind, state, &[])?;
+    expect_costs(rt, add, &task.parts().goal, &costs);
+    Ok(add.is_dead())
+}
+
 /// Compares the costs of a random state of a random task, with and without some facts. Answers
 /// whether the state is dead.
 fn compare(rt: &(impl Abort + AllocGlobal), dice: &mut Pcg32) -> Result<bool, Fail> {
-    let alloc = rt.alloc();
-    let task = random_task(alloc, dice)?;
+    let task = random_task(rt.alloc(), dice)?;
     let kind = kind_of(below(dice, 3));
-    let state = state(alloc, dice, 2)?;
-    let without = some_facts(alloc, dice, 3)?;
-    let mut add = additive(alloc, &task, kind)?;
-    evaluate_without(&mut add, &state, &without);
-    let costs = plain_rounds(alloc, &task, kind, &state, &without)?;
-    expect_costs(rt, &add, &task.parts().goal, &costs);
-    evaluate(&mut add, &state);
-    let costs = plain_rounds(alloc, &task, kind, &state, &[])?;
-    expect_costs(rt, &add, &task.parts().goal, &costs);
-    Ok(add.is_dead())
+    let state = state(rt.alloc(), dice, 2)?;
+    let without = some_facts(rt.alloc(), dice, 3)?;
+    let mut add = additive(rt.alloc(), &task, kind)?;
+    compare_without(rt, &mut add, &task, kind, &state, &without)?;
+    compare_whole(rt, &mut add, &task, kind, &state)
 }
 
 #[test]

@@ -39,13 +39,22 @@ pub fn some_facts(alloc: Global, dice: &mut Pcg32, end: u32) -> Result<Vec<Fact>
     Ok(list)
 }
 
+fn add_variable(
+    alloc: Global,
+    variables: &mut Seq<Variable>,
+    layer: Option<u32>,
+    range: u32,
+) -> Result<(), AllocError> {
+    let variable = variable(alloc, layer, range)?;
+    variables.push(variable)
+}
+
 fn variables(alloc: Global) -> Result<Seq<Variable>, AllocError> {
     let mut variables = Seq::new(alloc);
-    for _ in 0..3 {
-        variables.push(variable(alloc, None, 3)?)?;
+    for var in 0..5 {
+        let layer = if var < 3 { None } else { Some(var - 3) };
+        add_variable(alloc, &mut variables, layer, values_of(var))?;
     }
-    variables.push(variable(alloc, Some(0), 2)?)?;
-    variables.push(variable(alloc, Some(1), 2)?)?;
     Ok(variables)
 }
 
@@ -61,34 +70,50 @@ pub fn state(alloc: Global, dice: &mut Pcg32, derived: u32) -> Result<Vec<u32>, 
     Ok(values)
 }
 
+fn random_effect(alloc: Global, dice: &mut Pcg32) -> Result<Effect, AllocError> {
+    let conds = some_facts(alloc, dice, 3)?;
+    effect(alloc, &conds, plain_fact(dice))
+}
+
 fn effects(alloc: Global, dice: &mut Pcg32) -> Result<Seq<Effect>, AllocError> {
     let mut effects = Seq::new(alloc);
     for _ in 0..below(dice, 3) {
-        let conds = some_facts(alloc, dice, 3)?;
-        effects.push(effect(alloc, &conds, plain_fact(dice))?)?;
+        let effect = random_effect(alloc, dice)?;
+        effects.push(effect)?;
     }
     Ok(effects)
+}
+
+fn random_operator(alloc: Global, dice: &mut Pcg32) -> Result<Operator, AllocError> {
+    let pre = some_facts(alloc, dice, 3)?;
+    let effects = effects(alloc, dice)?;
+    operator(alloc, &pre, effects, below(dice, 4))
 }
 
 fn operators(alloc: Global, dice: &mut Pcg32) -> Result<Seq<Operator>, AllocError> {
     let mut operators = Seq::new(alloc);
     for _ in 0..6 {
-        let pre = some_facts(alloc, dice, 3)?;
-        let effects = effects(alloc, dice)?;
-        operators.push(operator(alloc, &pre, effects, below(dice, 4))?)?;
+        let operator = random_operator(alloc, dice)?;
+        operators.push(operator)?;
     }
     Ok(operators)
 }
 
+/// A rule of the lower layer, or one of the upper layer, which asks twice for a fact of the lower.
+fn random_rule(alloc: Global, dice: &mut Pcg32) -> Result<Rule, AllocError> {
+    let first = plain_fact(dice);
+    if below(dice, 2) == 0 {
+        return rule(alloc, &[first, plain_fact(dice)], fact(3, 1));
+    }
+    let lower = fact(3, below(dice, 2));
+    rule(alloc, &[first, lower, lower], fact(4, 1))
+}
+
 fn rules(alloc: Global, dice: &mut Pcg32) -> Result<Seq<Rule>, AllocError> {
     let mut rules = Seq::new(alloc);
-    for _ in 0..below(dice, 3) {
-        let first = plain_fact(dice);
-        rules.push(rule(alloc, &[first, plain_fact(dice)], fact(3, 1))?)?;
-    }
-    for _ in 0..below(dice, 3) {
-        let lower = fact(3, below(dice, 2));
-        rules.push(rule(alloc, &[plain_fact(dice), lower, lower], fact(4, 1))?)?;
+    for _ in 0..below(dice, 5) {
+        let rule = random_rule(alloc, dice)?;
+        rules.push(rule)?;
     }
     Ok(rules)
 }
