@@ -49,11 +49,11 @@ fn lesser_below(heap: &[u64], at: usize) -> Option<usize>
     }
     let left = 2 * at + 1;
     let right = left + 1;
-    if right < heap.len() && heap[right] < heap[left] {
-        Some(right)
-    } else {
-        Some(left)
+    if right >= heap.len() {
+        return Some(left);
     }
+    // Which of the two is less is as good as random: it is added and not branched on.
+    Some(left + usize::from(heap[right] < heap[left]))
 }
 
 /// Moves the first entry down to the bottom, and from there up to its place, which is mostly near.
