@@ -1,7 +1,6 @@
 -- Counting open conditions.
-use Rattle.std.proofs.Common.{◌≡◌, ◌≢◌, ◌∙◌, sym, ap, subst, refl, ℕ, zero, suc, ◌+◌, ◌-◌, ◌<◌, ◌≤◌, ◌⊎◌, inl, inr, List, [], ◌∷◌, length, get_or, take, Bool, true, false, nat_eq, not, ◌&&◌, ◌||◌, arith, Some, slice_get, slice_set, get_or-set_other, get_or-set_same}
+use Rattle.std.proofs.Common.{◌≡◌, ◌≢◌, ◌∙◌, sym, ap, subst, refl, ℕ, zero, suc, ◌+◌, ◌-◌, ◌<◌, ◌≤◌, ◌⊎◌, inl, inr, List, [], ◌∷◌, length, get_or, take, Bool, true, false, nat_eq, not, ◌||◌, arith, Some, slice_get, slice_set, get_or-set_other, get_or-set_same}
 use Rattle.std.specs.List.{list_all}
-use Rattle.std.proofs.lemmas.Bool.Decides.{nat_tests}
 use Rattle.std.proofs.lemmas.List.{take_more, take_all}
 use Rattle.std.proofs.lemmas.List.Folds.{list_any-append}
 use Rattle.lama_num.specs.declared.estimates.Estimate.{Estimate}
@@ -15,39 +14,45 @@ use Rattle.h_add.specs.UnderWay.{is_done, IsUnderWay}
 use Rattle.h_add.specs.Rows.{row_at}
 use Rattle.h_add.specs.Tables.{IsNeeds}
 use Rattle.h_add.specs.Counts.{unseen, IsCounted, IsSeen, is_once, AreOnce, CountsDown, IsNoMoreDone}
-
-both : (a b : Bool) → (a && b) ≡ true → (a ≡ true) × (b ≡ true)
-both true b e = (refl, e)
-both false b e = let k : false ≡ true = e in cc
-
-places : (m n : ℕ) → ((m ≡ n) × (nat_eq m n ≡ true)) ⊎ ((m ≢ n) × (nat_eq m n ≡ false))
-places m n = grind (arith, nat_tests)
+use Rattle.relaxed_task.specs.Elements.{denied, places}
+use Rattle.lama_num.specs.Lists.{both}
 
 one_small : (b : Bool) → one_if b ≤ 1
 one_small true = omega arith
 one_small false = omega arith
 
--- where all are done, none is unseen
-none_unseen : (v : ℕ → Estimate) (p seen : ℕ → Bool) (conds : List ℕ) → IsSeen v p seen → list_all (is_done v p) conds ≡ true → unseen seen conds ≡ 0
-none_unseen v p seen [] is done = refl
-none_unseen v p seen (c ∷ conds) is done =
-    let parts = both (is_done v p c) (list_all (is_done v p) conds) done in
-    let rest = none_unseen v p seen conds is parts.1 in
-    let here : one_if (not (seen c)) ≡ 0 = ap (λ (b : Bool). one_if (not b)) (is c parts.0) in
+-- where all were looked at, none is open
+none_unseen : (seen : ℕ → Bool) (conds : List ℕ) → list_all seen conds ≡ true → unseen seen conds ≡ 0
+none_unseen seen [] all = refl
+none_unseen seen (c ∷ conds) all =
+    let parts = both (seen c) (list_all seen conds) all in
+    let rest = none_unseen seen conds parts.1 in
+    let here : one_if (not (seen c)) ≡ 0 = ap (λ (b : Bool). one_if (not b)) parts.0 in
     omega arith
 
--- a unary operator with an open condition owes nothing
-pub skipped : (unaries : List Unary) (start without : List ℕ) (v : ℕ → Estimate) (p seen : ℕ → Bool) (counts : List ℕ) (i : ℕ) (owed : List ℕ) → IsCounted unaries seen counts → IsSeen v p seen → 0 < get_or counts i 0 →
+pub met : (unaries : List Unary) (seen : ℕ → Bool) (counts : List ℕ) (i : ℕ) (u : Unary) → IsCounted unaries seen counts → slice_get unaries i ≡ Some u → list_all seen u.conds ≡ true → nat_eq (get_or counts i 0) 0 ≡ true
+met unaries seen counts i u counted at all =
+    let few = counted i u at in
+    let none = none_unseen seen u.conds all in
+    let left : get_or counts i 0 ≡ 0 = omega arith in
+    rw left refl
+
+-- what is done was looked at
+all_seen : (v : ℕ → Estimate) (p seen : ℕ → Bool) (conds : List ℕ) → IsSeen v p seen → list_all (is_done v p) conds ≡ true → list_all seen conds ≡ true
+all_seen v p seen [] is done = refl
+all_seen v p seen (c ∷ conds) is done =
+    let parts = both (is_done v p c) (list_all (is_done v p) conds) done in
+    let here : seen c ≡ true = is c parts.0 in
+    rw here (all_seen v p seen conds is parts.1)
+
+-- a unary operator with a condition that wasn't looked at owes nothing
+pub skipped : (unaries : List Unary) (start without : List ℕ) (v : ℕ → Estimate) (p seen : ℕ → Bool) (i : ℕ) (owed : List ℕ) → IsSeen v p seen → ((u : Unary) → slice_get unaries i ≡ Some u → list_all seen u.conds ≡ true → ⊥) →
     IsUnderWay unaries start without v p (i ∷ owed) → IsUnderWay unaries start without v p owed
-skipped unaries start without v p seen counts i owed counted is some way = record { first = way.first; attained = way.attained; owes = λ j u at stays done. by_case j u at done (way.owes j u at stays done) }
+skipped unaries start without v p seen i owed is never way = record { first = way.first; attained = way.attained; owes = λ j u at stays done. by_case j u at done (way.owes j u at stays done) }
   where
     by_place : (j : ℕ) (u : Unary) → slice_get unaries j ≡ Some u → list_all (is_done v p) u.conds ≡ true → ((j ≡ i) × (nat_eq j i ≡ true)) ⊎ ((j ≢ i) × (nat_eq j i ≡ false)) → is_among (i ∷ owed) j ≡ true →
         IsAtMost (v u.gives) (price v u) ⊎ (is_among owed j ≡ true)
-    by_place j u at done (inl here) among =
-        let few = counted j u at in
-        let zero_left = none_unseen v p seen u.conds is done in
-        let same : get_or counts j 0 ≡ get_or counts i 0 = ap (λ (n : ℕ). get_or counts n 0) here.0 in
-        absurd (omega arith)
+    by_place j u at done (inl here) among = absurd (never u (ap (λ (n : ℕ). slice_get unaries n) (sym here.0) ∙ at) (all_seen v p seen u.conds is done))
     by_place j u at done (inr there) among = inr (rw there.1 at among)
 
     by_case : (j : ℕ) (u : Unary) → slice_get unaries j ≡ Some u → list_all (is_done v p) u.conds ≡ true → IsAtMost (v u.gives) (price v u) ⊎ (is_among (i ∷ owed) j ≡ true) →
@@ -79,10 +84,6 @@ unseen_one flags fact (c ∷ conds) once = by_place (places fact c) (unseen_one 
   where
     parts : (not (is_among conds c) ≡ true) × (is_once conds ≡ true)
     parts = both (not (is_among conds c)) (is_once conds) once
-
-    denied : (b : Bool) → not b ≡ true → b ≡ false
-    denied true h = let k : false ≡ true = h in cc
-    denied false h = refl
 
     by_place : ((fact ≡ c) × (nat_eq fact c ≡ true)) ⊎ ((fact ≢ c) × (nat_eq fact c ≡ false)) → unseen (seen_in flags) conds ≤ unseen (seen_in (slice_set flags fact true)) conds + one_if (is_among conds fact) →
         unseen (seen_in flags) (c ∷ conds) ≤ unseen (seen_in (slice_set flags fact true)) (c ∷ conds) + one_if (nat_eq fact c || is_among conds fact)
@@ -184,17 +185,8 @@ lowered_done costs flags fact cost lt other done = by_place (places other fact)
         let flag : is_waiting (slice_set flags fact true) other ≡ is_waiting flags other = get_or-set_other flags fact other true false there.0 in
         rw (← value, ← flag) done
 
--- the counts after a fact is looked at, for the first time or again
-pub counted_after : (unaries : List Unary) (needs : List (List ℕ)) (flags : List Bool) (fact : ℕ) (old new shown : List ℕ) → IsNeeds unaries needs → AreOnce unaries → row_at needs fact ≡ shown → fact < length flags →
-    (is_waiting flags fact ≡ true → new ≡ old) → (is_waiting flags fact ≡ false → CountsDown shown old new) →
-    IsCounted unaries (seen_in flags) old → IsCounted unaries (seen_in (slice_set flags fact true)) new
-counted_after unaries needs flags fact old new shown needed once shows lt again first counted = by_test (is_waiting flags fact) refl
-  where
-    same_set : (flags : List Bool) (fact : ℕ) → is_waiting flags fact ≡ true → slice_set flags fact true ≡ flags
-    same_set [] fact is = refl
-    same_set (x ∷ flags) zero is = let e : true ≡ x = sym is in cc
-    same_set (x ∷ flags) (suc fact) is = ap (λ (fs : List Bool). x ∷ fs) (same_set flags fact is)
-
-    by_test : (b : Bool) → is_waiting flags fact ≡ b → IsCounted unaries (seen_in (slice_set flags fact true)) new
-    by_test true is = rw (same_set flags fact is, again is) counted
-    by_test false is = counted_down unaries needs flags fact old new needed once (rw shows (first is)) counted
+-- a flag that is set stays so
+pub same_set : (flags : List Bool) (fact : ℕ) → is_waiting flags fact ≡ true → slice_set flags fact true ≡ flags
+same_set [] fact is = refl
+same_set (x ∷ flags) zero is = let e : true ≡ x = sym is in cc
+same_set (x ∷ flags) (suc fact) is = ap (λ (fs : List Bool). x ∷ fs) (same_set flags fact is)

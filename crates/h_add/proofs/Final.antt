@@ -23,8 +23,8 @@ use Rattle.h_add.specs.Queues.{is_waiting, one_if}
 use Rattle.h_add.specs.Tables.{are_below}
 use Rattle.h_add.specs.UnderWay.{is_out, IsOut}
 use Rattle.h_add.specs.Values.{value_at}
+use Rattle.relaxed_task.specs.Elements.{places}
 use Rattle.h_add.proofs.Summing.{map_at}
-use Rattle.h_add.proofs.Growing.{places}
 
 -- the facts that are marked are those of round 0
 pub state_numbers_below : (parts : Parts) (kind : CostKind) (relaxed : Lists) (state : List ℕ) → IsRelaxed parts kind relaxed → IsState parts.variables state → are_below relaxed.facts (numbers_by relaxed.offsets state) ≡ true

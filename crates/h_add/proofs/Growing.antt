@@ -13,9 +13,7 @@ use Rattle.relaxed_task.specs.Unaries.{is_below, is_unary_below}
 use Rattle.h_add.specs.Rows.{row_at}
 use Rattle.h_add.specs.Listings.{Lists}
 use Rattle.h_add.specs.Tables.{are_within, are_below}
-
-pub places : (m n : ℕ) → ((m ≡ n) × (nat_eq m n ≡ true)) ⊎ ((m ≢ n) × (nat_eq m n ≡ false))
-places m n = grind (arith, nat_tests)
+use Rattle.relaxed_task.specs.Elements.{places}
 
 same_place : (n : ℕ) → nat_eq n n ≡ true
 same_place n = grind (arith, nat_tests)

@@ -7,9 +7,7 @@ use Rattle.std.proofs.lemmas.List.{length-set, set-get_or, take_all, drop_all, a
 use Rattle.std.proofs.lemmas.List.Sums.{sum_by-append}
 use Rattle.std.proofs.lemmas.List.Sorted.{sum_by-IsPermutation, sum_by_popped, IsPermutation-trans, IsPermutation-cons, IsPermutation-swap, IsPermutation-refl}
 use Rattle.h_add.specs.Queues.{is_waiting, one_if, fact_of, times, Holds}
-
-places : (m n : ℕ) → ((m ≡ n) × (nat_eq m n ≡ true)) ⊎ ((m ≢ n) × (nat_eq m n ≡ false))
-places m n = grind (arith, nat_tests)
+use Rattle.relaxed_task.specs.Elements.{places}
 
 pub nonempty : (n : ℕ) (b : Bool) → b ≡ (n == 0) → b ≡ false → 0 < n
 nonempty n b is no_more = let k : nat_eq n 0 ≡ false = sym is ∙ no_more in grind (arith, nat_tests, k)

@@ -1,21 +1,23 @@
 -- Facts that cost nothing at the start.
-use Rattle.std.proofs.Common.{◌≡◌, ◌≢◌, ◌∙◌, sym, ap, subst, refl, ℕ, zero, suc, ◌+◌, ◌<◌, ◌≤◌, ◌⊎◌, inl, inr, List, [], ◌∷◌, ◌++◌, length, get_or, take, map, Bool, true, false, nat_eq, not, ◌&&◌, ◌||◌, arith, slice_set, get_or-set_other, get_or-set_same, append_assoc}
-use Rattle.std.specs.List.{list_all, enumerate_from}
+use Rattle.std.proofs.Common.{◌≡◌, ◌≢◌, ◌∙◌, sym, ap, subst, refl, ℕ, ◌+◌, ◌<◌, ◌≤◌, ◌⊎◌, inl, inr, List, [], ◌∷◌, ◌++◌, length, get_or, take, Bool, true, false, nat_eq, not, ◌&&◌, ◌||◌, slice_set, get_or-set_other, get_or-set_same, append_assoc}
+use Rattle.std.specs.List.{list_all}
 use Rattle.std.proofs.lemmas.List.{take_more, take_all, append-nil}
 use Rattle.std.proofs.lemmas.List.Folds.{list_any-append}
 use Rattle.lama_num.specs.declared.estimates.Estimate.TheVariants.{Finite, Infinite}
 use Rattle.relaxed_task.specs.declared.unary.Unary.{Unary}
 use Rattle.relaxed_task.specs.Estimates.{is_finite, IsAtMost}
-use Rattle.relaxed_task.specs.Numbers.{numbers_by, number_by, fact_at}
 use Rattle.relaxed_task.specs.Reached.{is_among, is_in_round}
 use Rattle.relaxed_task.specs.Sums.{add_round}
 use Rattle.relaxed_task.specs.AddLaws.{at_most_self, at_most_infinite}
 use Rattle.h_add.specs.Values.{estimate_of, value_at}
 use Rattle.h_add.specs.Queues.{is_waiting}
 use Rattle.h_add.specs.UnderWay.{is_done, is_out, IsOut, IsUnderWay}
+use Rattle.h_add.specs.Costings.{Costing}
 use Rattle.h_add.specs.Marks.{AreMarked}
 use Rattle.h_add.specs.Tables.{AreFree}
-use Rattle.h_add.proofs.Growing.{places, among_more, among_last}
+use Rattle.h_add.proofs.Growing.{among_more, among_last}
+use Rattle.relaxed_task.specs.Elements.{denied, places}
+use Rattle.lama_num.specs.Lists.{both}
 
 pub none_marked : (out : List Bool) (costs : List ℕ) (waiting : List Bool) → ((fact : ℕ) → value_at costs fact ≡ Infinite) → AreMarked out [] costs waiting
 none_marked out costs waiting infinite = record {
@@ -92,9 +94,10 @@ none_more out before costs waiting fact left m = record {
     by_others f (inr h) = inr (among_more before f fact h.0, h.1)
 
 -- one more of a list
-pub list_marked : (out : List Bool) (before facts old new : List ℕ) (old_waiting new_waiting : List Bool) (k fact : ℕ) → k < length facts → fact ≡ get_or facts k 0 →
-    ((before : List ℕ) → AreMarked out before old old_waiting → AreMarked out (before ++ fact ∷ []) new new_waiting) → AreMarked out (before ++ take k facts) old old_waiting → AreMarked out (before ++ take (k + 1) facts) new new_waiting
-list_marked out before facts old new old_waiting new_waiting k fact lt at step m =
+pub list_marked : (before facts : List ℕ) (old new : Costing) (k fact : ℕ) → k < length facts → fact ≡ get_or facts k 0 →
+    ((before : List ℕ) → AreMarked old.out before old.costs old.waiting → AreMarked new.out (before ++ fact ∷ []) new.costs new.waiting) →
+    AreMarked old.out (before ++ take k facts) old.costs old.waiting → AreMarked new.out (before ++ take (k + 1) facts) new.costs new.waiting
+list_marked before facts old new k fact lt at step m =
     let more : before ++ take (k + 1) facts ≡ (before ++ take k facts) ++ fact ∷ [] = rw (take_more facts k 0 lt, ← at) (sym append_assoc_here) in
     rw more (step (before ++ take k facts) m)
   where
@@ -107,22 +110,6 @@ all_marked out before facts costs waiting k le m = subst (λ (xs : List ℕ). Ar
 pub first_marked : (out : List Bool) (before facts costs : List ℕ) (waiting : List Bool) → AreMarked out before costs waiting → AreMarked out (before ++ take 0 facts) costs waiting
 first_marked out before facts costs waiting m = subst (λ (xs : List ℕ). AreMarked out xs costs waiting) (sym (append-nil before)) m
 
--- the numbers of a state
-pub long_numbers : (offsets state : List ℕ) → length (numbers_by offsets state) ≡ length state
-long_numbers offsets state = go 0 state
-  where
-    go : (n : ℕ) (xs : List ℕ) → length (map (λ (p : ℕ × ℕ). number_by offsets (fact_at p.0 p.1)) (enumerate_from n xs)) ≡ length xs
-    go n [] = refl
-    go n (x ∷ xs) = ap suc (go (n + 1) xs)
-
-pub number_at : (offsets state : List ℕ) (i : ℕ) → i < length state → get_or (numbers_by offsets state) i 0 ≡ get_or offsets i 0 + get_or state i 0
-number_at offsets state i lt = let z : 0 + i ≡ i = omega arith in go 0 state i lt ∙ ap (λ (k : ℕ). get_or offsets k 0 + get_or state i 0) z
-  where
-    go : (n : ℕ) (xs : List ℕ) (i : ℕ) → i < length xs → get_or (map (λ (p : ℕ × ℕ). number_by offsets (fact_at p.0 p.1)) (enumerate_from n xs)) i 0 ≡ get_or offsets (n + i) 0 + get_or xs i 0
-    go n [] i lt = absurd (omega arith)
-    go n (x ∷ xs) zero lt = let z : n + 0 ≡ n = omega arith in rw z refl
-    go n (x ∷ xs) (suc i) lt = let z : n + suc i ≡ n + 1 + i = omega arith in rw z (go (n + 1) xs i (omega arith))
-
 -- what is marked is under way, where those without conditions are owed
 pub marked_way : (unaries : List Unary) (start without costs free : List ℕ) (waiting out : List Bool) → AreFree unaries free → IsOut without out → AreMarked out start costs waiting →
     IsUnderWay unaries start without (value_at costs) (is_waiting waiting) free
@@ -132,14 +119,6 @@ marked_way unaries start without costs free waiting out are_free outs m = record
   owes = λ i u at stays done. inr (are_free i u at (no_conds u.conds done));
 }
   where
-    both : (a b : Bool) → (a && b) ≡ true → (a ≡ true) × (b ≡ true)
-    both true b e = (refl, e)
-    both false b e = let k : false ≡ true = e in cc
-
-    denied : (b : Bool) → not b ≡ true → b ≡ false
-    denied true h = let k : false ≡ true = h in cc
-    denied false h = refl
-
     no_conds : (conds : List ℕ) → list_all (is_done (value_at costs) (is_waiting waiting)) conds ≡ true → conds ≡ []
     no_conds [] done = refl
     no_conds (c ∷ conds) done = let k : true ≡ false = sym (both (is_done (value_at costs) (is_waiting waiting) c) (list_all (is_done (value_at costs) (is_waiting waiting)) conds) done).0 ∙ m.none_done c in cc

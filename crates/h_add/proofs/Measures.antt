@@ -1,11 +1,11 @@
 -- What is left to do falls, and kept costs are in the order of estimates.
-use Rattle.std.proofs.Common.{◌≡◌, ap, ℕ, zero, suc, ◌+◌, ◌<◌, ◌≤◌, List, [], ◌∷◌, length, get_or, Bool, true, false, arith, slice_set, nat_le, if◌then◌else◌, refl}
+use Rattle.std.proofs.Common.{◌≡◌, ap, ℕ, zero, suc, ◌+◌, ◌<◌, ◌≤◌, List, [], ◌∷◌, length, get_or, Bool, true, false, arith, slice_set, nat_le, if◌then◌else◌, refl, Option, Some, None, IfSome}
 use Rattle.std.proofs.lemmas.Bool.Decides.{nat_tests}
 use Rattle.lama_num.specs.declared.estimates.Estimate.TheVariants.{Finite, Infinite}
 use Rattle.relaxed_task.specs.Estimates.{IsAtMost}
 use Rattle.relaxed_task.specs.AddLaws.{at_most_infinite}
 use Rattle.h_add.specs.Values.{estimate_of}
-use Rattle.h_add.specs.Queues.{is_waiting, IsWithout, one_if, flags_set}
+use Rattle.h_add.specs.Queues.{is_waiting, IsWithout, IsPopped, one_if, flags_set}
 use Rattle.h_add.specs.UnderWay.{sum_of, left_to_do}
 
 -- kept costs are in the order of estimates
@@ -58,3 +58,7 @@ pop_falls costs old new i w =
     let b : one_if (is_waiting old i) ≡ 1 = ap one_if w.was in
     let c : flags_set new ≡ flags_set (slice_set old i false) = ap flags_set w.is in
     omega arith
+
+pub popped_within : (old new : List Bool) (r : Option ℕ) (n : ℕ) → IsPopped old new r → length old ≡ n → IfSome r (λ fact. fact < n)
+popped_within old new None n popped long = tt
+popped_within old new (Some fact) n popped long = let lt = waiting_within old fact popped.was in omega arith

@@ -1,5 +1,5 @@
 -- One offer, one fact looked at, and the end.
-use Rattle.std.proofs.Common.{◌≡◌, ◌≢◌, ◌∙◌, sym, ap, subst, refl, ℕ, zero, suc, ◌+◌, ◌<◌, ◌≤◌, ◌⊎◌, inl, inr, List, [], ◌∷◌, length, get_or, drop, Bool, true, false, nat_eq, not, ◌&&◌, ◌||◌, arith, Option, Some, None, map, nat_lt, slice_get, slice_set, get_or-set_other, get_or-set_same}
+use Rattle.std.proofs.Common.{◌≡◌, ◌≢◌, ◌∙◌, sym, ap, subst, refl, ℕ, ◌+◌, ◌<◌, ◌≤◌, ◌⊎◌, inl, inr, List, [], ◌∷◌, length, get_or, drop, Bool, true, false, nat_eq, not, ◌&&◌, ◌||◌, arith, Option, Some, None, nat_lt, slice_get, slice_set, get_or-set_other, get_or-set_same}
 use Rattle.std.specs.List.{list_all}
 use Rattle.std.proofs.lemmas.Bool.Decides.{nat_tests}
 use Rattle.std.proofs.lemmas.List.{drop_all, get_or_default}
@@ -17,19 +17,11 @@ use Rattle.h_add.specs.Queues.{is_waiting, IsWithout, IsPopped}
 use Rattle.h_add.specs.UnderWay.{is_done, Owes, IsUnderWay, is_out, IsOut}
 use Rattle.h_add.specs.Rows.{row_at}
 use Rattle.h_add.specs.Tables.{IsNeeds}
-use Rattle.h_add.specs.Counts.{IsCounted, IsSeen, IsNoMoreDone}
-use Rattle.h_add.proofs.Counting.{skipped}
+use Rattle.h_add.specs.Counts.{IsSeen, IsNoMoreDone}
 use Rattle.h_add.proofs.Measures.{kept_order}
-
-both : (a b : Bool) → (a && b) ≡ true → (a ≡ true) × (b ≡ true)
-both true b e = (refl, e)
-both false b e = let k : false ≡ true = e in cc
-
-join : (a b : Bool) → a ≡ true → b ≡ true → (a && b) ≡ true
-join a b e h = rw e h
-
-places : (m n : ℕ) → ((m ≡ n) × (nat_eq m n ≡ true)) ⊎ ((m ≢ n) × (nat_eq m n ≡ false))
-places m n = grind (arith, nat_tests)
+use Rattle.relaxed_task.specs.Elements.{denied, drop_within, join, places}
+use Rattle.lama_num.specs.Lists.{both}
+use Rattle.h_add.specs.Laws.{UnaryAt}
 
 -- one fact became cheaper, and waits
 record Lowers (v w : ℕ → Estimate) (p q : ℕ → Bool) (fact : ℕ) (cost : Estimate) : Type 0 where
@@ -174,20 +166,6 @@ at_last unaries start without v p none is = any_order unaries start without v is
         let e : price v u ≡ Infinite = infinite_where_not (price v u) (finite_price v u ∙ finite) in
         rw e (at_most_infinite (v u.gives))
 
--- the rule at a place
-pub record RuleAt (unaries : List Unary) (i fact : ℕ) : Type 0 where
-  pub unary : Unary
-  pub at : slice_get unaries i ≡ Some unary
-  pub gives : fact ≡ unary.gives
-
-pub rule_at : (unaries : List Unary) (gives : List ℕ) (i fact : ℕ) → gives ≡ map (λ u. u.gives) unaries → slice_get gives i ≡ Some fact → RuleAt unaries i fact
-rule_at unaries gives i fact is at = found unaries i (rw is at at)
-  where
-    found : (unaries : List Unary) (i : ℕ) → slice_get (map (λ u. u.gives) unaries) i ≡ Some fact → RuleAt unaries i fact
-    found [] i at = let k : ◌≡◌ {A = Option ℕ} None (Some fact) = at in cc
-    found (u ∷ unaries) zero at = let k : Some u.gives ≡ Some fact = at in record { unary = u; at = refl; gives = cc }
-    found (u ∷ unaries) (suc i) at = let r = found unaries i at in record { unary = r.unary; at = r.at; gives = r.gives }
-
 -- an offer that lowers a cost, and one that doesn't
 lowers_at : (costs : List ℕ) (flags : List Bool) (fact price_is : ℕ) (cost : Estimate) → fact < length costs → fact < length flags → estimate_of price_is ≡ cost → price_is < get_or costs fact 0 →
     Lowers (value_at costs) (value_at (slice_set costs fact price_is)) (is_waiting flags) (is_waiting (slice_set flags fact true)) fact cost
@@ -199,7 +177,7 @@ lowers_at costs flags fact price_is cost within in_flags priced less = record {
   less = let same : get_or costs fact 0 ≡ get_or costs fact 4294967295 = sym (get_or_default costs fact 4294967295 0 within) in rw (← priced) (kept_order price_is (get_or costs fact 4294967295) (omega arith));
 }
 
-pub lower_way : (unaries : List Unary) (start without owed : List ℕ) (costs now : List ℕ) (flags now_flags out : List Bool) (i fact price_is : ℕ) (r : RuleAt unaries i fact) → fact < length costs → length flags ≡ length costs →
+pub lower_way : (unaries : List Unary) (start without owed : List ℕ) (costs now : List ℕ) (flags now_flags out : List Bool) (i fact price_is : ℕ) (r : UnaryAt unaries i fact) → fact < length costs → length flags ≡ length costs →
     estimate_of price_is ≡ price (value_at costs) r.unary → IsOut without out → (nat_lt price_is (get_or costs fact 0) && not (is_out out fact)) ≡ true → now ≡ slice_set costs fact price_is → now_flags ≡ slice_set flags fact true →
     IsUnderWay unaries start without (value_at costs) (is_waiting flags) (i ∷ owed) → IsUnderWay unaries start without (value_at now) (is_waiting now_flags) owed
 lower_way unaries start without owed costs now flags now_flags out i fact price_is r within long priced outs test sets flagged is =
@@ -209,12 +187,8 @@ lower_way unaries start without owed costs now flags now_flags out i fact price_
     let at_gives = subst (λ (k : ℕ). Lowers (value_at costs) (value_at (slice_set costs fact price_is)) (is_waiting flags) (is_waiting (slice_set flags fact true)) k (price (value_at costs) r.unary)) r.gives lowers in
     let stays : is_among without r.unary.gives ≡ false = ap (is_among without) (sym r.gives) ∙ (sym (outs fact) ∙ denied (is_out out fact) parts.1) in
     rw (sets, flagged) (lowered unaries start without (value_at costs) (value_at (slice_set costs fact price_is)) (is_waiting flags) (is_waiting (slice_set flags fact true)) i r.unary owed r.at stays at_gives is)
-  where
-    denied : (b : Bool) → not b ≡ true → b ≡ false
-    denied true h = let k : false ≡ true = h in cc
-    denied false h = refl
 
-pub keep_way : (unaries : List Unary) (start without owed : List ℕ) (costs : List ℕ) (flags out : List Bool) (i fact price_is : ℕ) (r : RuleAt unaries i fact) → fact < length costs →
+pub keep_way : (unaries : List Unary) (start without owed : List ℕ) (costs : List ℕ) (flags out : List Bool) (i fact price_is : ℕ) (r : UnaryAt unaries i fact) → fact < length costs →
     estimate_of price_is ≡ price (value_at costs) r.unary → IsOut without out → (nat_lt price_is (get_or costs fact 0) && not (is_out out fact)) ≡ false →
     IsUnderWay unaries start without (value_at costs) (is_waiting flags) (i ∷ owed) → IsUnderWay unaries start without (value_at costs) (is_waiting flags) owed
 keep_way unaries start without owed costs flags out i fact price_is r within priced outs test is = record {
@@ -236,11 +210,6 @@ keep_way unaries start without owed costs flags out i fact price_is r within pri
         let same : get_or costs fact 0 ≡ get_or costs fact 4294967295 = sym (get_or_default costs fact 4294967295 0 within) in
         kept_order (get_or costs fact 4294967295) price_is (omega arith)
 
-drop_within : (xs : List ℕ) (i x : ℕ) → i < length xs → x ≡ get_or xs i 0 → drop i xs ≡ x ∷ drop (i + 1) xs
-drop_within [] i x lt at = absurd (omega arith)
-drop_within (y ∷ xs) zero x lt at = let same : x ≡ y = at in cc
-drop_within (y ∷ xs) (suc i) x lt at = let z : suc i + 1 ≡ suc (i + 1) = omega arith in rw z (drop_within xs i x (omega arith) at)
-
 -- one more of a list
 pub one_offered : (unaries : List Unary) (start without : List ℕ) (v w : ℕ → Estimate) (p q : ℕ → Bool) (places : List ℕ) (k place : ℕ) → k < length places → place ≡ get_or places k 0 →
     ((owed : List ℕ) → IsUnderWay unaries start without v p (place ∷ owed) → IsUnderWay unaries start without w q owed) → IsUnderWay unaries start without v p (drop k places) → IsUnderWay unaries start without w q (drop (k + 1) places)
@@ -249,16 +218,8 @@ one_offered unaries start without v w p q places k place lt at step is = step (d
 pub all_offered : (unaries : List Unary) (start without : List ℕ) (v : ℕ → Estimate) (p : ℕ → Bool) (places : List ℕ) (k : ℕ) → length places ≤ k → IsUnderWay unaries start without v p (drop k places) → IsUnderWay unaries start without v p []
 all_offered unaries start without v p places k le is = rw drop_all at is
 
-pub waits : (unaries : List Unary) (start without : List ℕ) (v : ℕ → Estimate) (p seen : ℕ → Bool) (counts : List ℕ) (i : ℕ) (owed : List ℕ) → IsCounted unaries seen counts → IsSeen v p seen → (get_or counts i 0 ≡ 0 → ⊥) →
-    IsUnderWay unaries start without v p (i ∷ owed) → IsUnderWay unaries start without v p owed
-waits unaries start without v p seen counts i owed counted is some way = skipped unaries start without v p seen counts i owed counted is (omega arith) way
-
 pub seen_later : (v w : ℕ → Estimate) (p q seen : ℕ → Bool) → IsNoMoreDone v p w q → IsSeen v p seen → IsSeen w q seen
 seen_later v w p q seen less is fact done = is fact (less fact done)
-
-pub none_popped : (old new : List Bool) (r : Option ℕ) → IsPopped old new r → r ≡ None → (fact : ℕ) → is_waiting old fact ≡ false
-none_popped old new None popped is = popped.1
-none_popped old new (Some fact) popped is = let k : Some fact ≡ None = is in cc
 
 pub cheaper_less : (a b : ℕ) (c : Bool) → (nat_lt a b && c) ≡ true → a < b
 cheaper_less a b c h = let parts = both (nat_lt a b) c h in grind (arith, nat_tests, parts.0)

@@ -9,6 +9,7 @@ use Rattle.relaxed_task.specs.declared.unary.Unary.{Unary}
 use Rattle.relaxed_task.specs.AddLaws.{zero_plus, plus_zero, total_capped, plus_assoc}
 use Rattle.relaxed_task.specs.Sums.{total, price}
 use Rattle.h_add.specs.Values.{estimate_of, value_at}
+use Rattle.relaxed_task.specs.Elements.{drop_within}
 
 pub finite_is : (cost : ℕ) → cost ≤ 1000000000 → estimate_of cost ≡ Finite cost
 finite_is cost le = let h : nat_le cost 1000000000 ≡ true = grind (arith, nat_tests) in rw h refl
@@ -23,11 +24,6 @@ pub record IsSumSoFar (value : ℕ → Estimate) (facts : List ℕ) (k sum : ℕ
 
 pub sum_starts : (value : ℕ → Estimate) (facts : List ℕ) → IsSumSoFar value facts 0 0
 sum_starts value facts = record { capped = omega arith; rest = zero_plus (total value facts) (total_capped value facts) }
-
-drop_within : (xs : List ℕ) (i x : ℕ) → i < length xs → x ≡ get_or xs i 0 → drop i xs ≡ x ∷ drop (i + 1) xs
-drop_within [] i x lt at = absurd (omega arith)
-drop_within (y ∷ xs) zero x lt at = let same : x ≡ y = at in cc
-drop_within (y ∷ xs) (suc i) x lt at = let z : suc i + 1 ≡ suc (i + 1) = omega arith in rw z (drop_within xs i x (omega arith) at)
 
 -- what a fact that is there costs
 cost_at : (costs : List ℕ) (fact cost : ℕ) → fact < length costs → cost ≡ get_or costs fact 0 → value_at costs fact ≡ estimate_of cost

@@ -1,5 +1,5 @@
 -- Laws of unary operators and of evaluated states, for those who build on the estimate.
-use Rattle.std.specs.Prelude.{◌≡◌, ℕ, ◌+◌, List, [], ◌∷◌, ◌++◌, map, Bool, true, false, not, ◌&&◌, ◌||◌, ◌↔◌}
+use Rattle.std.specs.Prelude.{◌≡◌, ℕ, zero, suc, ◌+◌, List, Option, Some, None, slice_get, [], ◌∷◌, ◌++◌, map, Bool, true, false, not, ◌&&◌, ◌||◌, ◌↔◌}
 use Rattle.std.specs.List.{list_all, list_any, enumerate_from, flat_map}
 use Rattle.std.proofs.Common.{refl, sym, ap, ◌∙◌}
 use Rattle.std.proofs.lemmas.List.Folds.{list_all-append}
@@ -112,3 +112,17 @@ sum_infinite_if_dead parts kind relaxed state costs sum is evaluated sums = (
     infinite_one : (e : Estimate) → is_finite e ≡ false → e ≡ Infinite
     infinite_one (Finite a) h = let k : true ≡ false = h in cc
     infinite_one Infinite h = refl
+
+-- the unary operator at a place, by what it gives
+pub record UnaryAt (unaries : List Unary) (place fact : ℕ) : Type 0 where
+  pub unary : Unary
+  pub at : slice_get unaries place ≡ Some unary
+  pub gives : fact ≡ unary.gives
+
+pub unary_at : (unaries : List Unary) (gives : List ℕ) (place fact : ℕ) → gives ≡ map (λ u. u.gives) unaries → slice_get gives place ≡ Some fact → UnaryAt unaries place fact
+unary_at unaries gives place fact is at = found unaries place (rw is at at)
+  where
+    found : (unaries : List Unary) (i : ℕ) → slice_get (map (λ u. u.gives) unaries) i ≡ Some fact → UnaryAt unaries i fact
+    found [] i at = let k : ◌≡◌ {A = Option ℕ} None (Some fact) = at in cc
+    found (u ∷ unaries) zero at = let k : Some u.gives ≡ Some fact = at in record { unary = u; at = refl; gives = cc }
+    found (u ∷ unaries) (suc i) at = let r = found unaries i at in record { unary = r.unary; at = r.at; gives = r.gives }

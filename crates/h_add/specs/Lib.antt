@@ -1,3 +1,4 @@
+pub mod Costings
 pub mod Counts
 pub mod Laws
 pub mod Listings

@@ -1,16 +1,11 @@
 -- What is distinct is there once.
-use Rattle.std.proofs.Common.{◌≡◌, ◌≢◌, refl, ℕ, ◌⊎◌, inl, inr, List, [], ◌∷◌, filter, Bool, true, false, nat_eq, not, ◌&&◌, ◌||◌, arith}
+use Rattle.std.proofs.Common.{◌≡◌, ◌≢◌, refl, ℕ, ◌⊎◌, inl, inr, List, [], ◌∷◌, filter, Bool, true, false, nat_eq, not, ◌||◌, arith}
 use Rattle.std.proofs.lemmas.Bool.Decides.{nat_tests}
 use Rattle.relaxed_task.specs.Reached.{is_among}
 use Rattle.relaxed_task.specs.Numbers.{distinct}
 use Rattle.h_add.specs.Counts.{is_once}
-
-places : (m n : ℕ) → ((m ≡ n) × (nat_eq m n ≡ true)) ⊎ ((m ≢ n) × (nat_eq m n ≡ false))
-places m n = grind (arith, nat_tests)
-
-both : (a b : Bool) → (a && b) ≡ true → (a ≡ true) × (b ≡ true)
-both true b e = (refl, e)
-both false b e = let k : false ≡ true = e in cc
+use Rattle.relaxed_task.specs.Elements.{denied, places}
+use Rattle.lama_num.specs.Lists.{both}
 
 -- a filter has no more than the list
 none_more : (q : ℕ → Bool) (fact : ℕ) (xs : List ℕ) → is_among xs fact ≡ false → is_among (filter q xs) fact ≡ false
@@ -29,10 +24,6 @@ once_filter : (q : ℕ → Bool) (xs : List ℕ) → is_once xs ≡ true → is_
 once_filter q [] once = refl
 once_filter q (x ∷ xs) once = by_test (q x) refl (once_filter q xs (both (not (is_among xs x)) (is_once xs) once).1)
   where
-    denied : (b : Bool) → not b ≡ true → b ≡ false
-    denied true h = let k : false ≡ true = h in cc
-    denied false h = refl
-
     by_test : (b : Bool) → q x ≡ b → is_once (filter q xs) ≡ true → is_once (filter q (x ∷ xs)) ≡ true
     by_test true is rest =
         let new = none_more q x xs (denied (is_among xs x) (both (not (is_among xs x)) (is_once xs) once).0) in

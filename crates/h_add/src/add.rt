@@ -14,15 +14,15 @@ ghost use Rattle.h_add.specs.Counts.{AreOnce};
 ghost use Rattle.h_add.specs.Tables.{AreTablesOf, AreSound};
 ghost use Rattle.h_add.specs.Values.{value_at, IsEvaluated};
 
-use crate::evaluating::{evaluate_into, evaluate_without_into, some_infinite, value_of};
-use crate::pricing::{INFINITE, estimate, total};
-use crate::queue::{Queue, no_flags};
-use crate::start::number;
+use crate::costs::Costs;
+use crate::evaluating::{some_infinite, value_of};
+use crate::open_conditions::OpenConditions;
+use crate::pricing::{estimate, total};
 use crate::tables::{Tables, tables_of};
 use lama_num::{Estimate, NoMemory};
 use relaxed_task::Relaxed;
 use sas_task::{CostKind, Fact, Task};
-use std::alloc::{AllocError, Global};
+use std::alloc::Global;
 use std::marker::Model;
 
 /// The additive estimate of the states of one task.
@@ -33,11 +33,8 @@ use std::marker::Model;
 pub struct Add {
     relaxed: Relaxed,
     tables: Tables,
-    costs: Vec<u32>,
-    queue: Queue,
-    seen: Vec<bool>,
-    counts: Vec<u32>,
-    out: Vec<bool>,
+    costs: Costs,
+    conditions: OpenConditions,
 }
 
 impl Model for Add {
@@ -46,15 +43,9 @@ impl Model for Add {
 
     ghost Value = { Evaluator };
 
-    ghost view = { λ a. record { relaxed = a.relaxed; costs = a.costs.items } };
+    ghost view = { λ a. record { relaxed = a.relaxed; costs = a.costs.costs } };
 
-    ghost invariant = { λ a. IsReady a.relaxed a.tables a.costs.items a.queue a.seen.items a.counts.items a.out.items };
-}
-
-fn numbers(alloc: Global, number: u32, count: usize) -> Result<Vec<u32>, AllocError>
-    ensures { IfOk result (λ v. length v.items ≡ count) }
-{
-    vec![in alloc; number; count]
+    ghost invariant = { λ a. IsReady a.relaxed a.tables a.costs a.conditions };
 }
 
 /// The evaluator over a relaxation.
@@ -64,19 +55,13 @@ fn evaluator(alloc: Global, relaxed: Relaxed) -> Result<Add, NoMemory>
 {
     let facts = relaxed.facts() as usize;
     let tables = tables_of(alloc, relaxed.unary(), facts)?;
-    let costs = numbers(alloc, INFINITE, facts)?;
-    let queue = Queue::new(alloc, facts, tables.gives.len().saturating_add(facts))?;
-    let seen = no_flags(alloc, facts)?;
-    let counts = numbers(alloc, 0, tables.gives.len())?;
-    let out = no_flags(alloc, facts)?;
+    let costs = Costs::new(alloc, facts, tables.gives.len().saturating_add(facts))?;
+    let conditions = OpenConditions::new(alloc, tables.gives.len(), facts)?;
     Ok(Add {
         relaxed,
         tables,
         costs,
-        queue,
-        seen,
-        counts,
-        out,
+        conditions,
     })
 }
 
@@ -110,16 +95,8 @@ impl Add {
         ensures costs { (parts : Parts) (kind : TheKind) → IsRelaxed parts kind self.old.relaxed → IsState parts.variables state.now →
             IsEvaluated parts kind state.now [] self.new.costs }
     {
-        evaluate_into(
-            &self.relaxed,
-            &self.tables,
-            state,
-            &self.out,
-            &mut self.costs,
-            &mut self.queue,
-            &mut self.seen,
-            &mut self.counts,
-        );
+        self.costs
+            .evaluate(&self.relaxed, &self.tables, state, &mut self.conditions);
     }
 
     /// Evaluates a state without some facts: they are neither among those that are reached at first,
@@ -130,16 +107,12 @@ impl Add {
             IsTrue (list_all (is_fact parts.variables) excluded.now) →
             IsEvaluated parts kind state.now (numbers_of parts.variables excluded.now) self.new.costs }
     {
-        evaluate_without_into(
+        self.costs.evaluate_without(
             &self.relaxed,
             &self.tables,
             state,
             excluded,
-            &mut self.out,
-            &mut self.costs,
-            &mut self.queue,
-            &mut self.seen,
-            &mut self.counts,
+            &mut self.conditions,
         );
     }
 
@@ -149,24 +122,23 @@ impl Add {
             IsEvaluated parts kind state without self.now.costs → IsTrue (is_fact parts.variables fact) →
             IsAdd parts kind state without (number_of parts.variables fact) result }
     {
-        value_of(
-            &self.costs,
-            number(self.relaxed.offsets(), fact.var as usize, fact.val),
-        )
+        let number = self.relaxed.number(fact.var as usize, fact.val);
+        value_of(self.costs.as_slice(), number)
     }
 
     /// What a fact costs, by its number in the relaxation.
     pub fn value_by_number(&self, number: u32) -> Estimate
         ensures { result ≡ value_at self.now.costs number }
     {
-        value_of(&self.costs, number as usize)
+        value_of(self.costs.as_slice(), number as usize)
     }
 
     /// What the facts cost, by their numbers in the relaxation. A cost above 1,000,000,000 is infinite.
     pub fn costs(&self) -> &[u32]
-        ensures { result.now ≡ self.now.costs }
+        ensures costs { result.now ≡ self.now.costs }
+        ensures long { length result.now ≡ self.now.relaxed.facts }
     {
-        &self.costs
+        self.costs.as_slice()
     }
 
     /// The sum of what the goal facts cost, each once. It is finite where all of them are reached, and
@@ -177,7 +149,7 @@ impl Add {
         ensures dead { (parts : Parts) (kind : TheKind) (state : List ℕ) → IsRelaxed parts kind self.now.relaxed →
             IsEvaluated parts kind state [] self.now.costs → ((result ≡ Estimate.Infinite) ↔ IsDead parts state) }
     {
-        estimate(total(&self.costs, self.relaxed.goals()))
+        estimate(total(self.costs.as_slice(), self.relaxed.goals()))
     }
 
     /// Whether some goal fact is never reached. Then no operators lead to a state where the goal holds.
@@ -188,6 +160,6 @@ impl Add {
             IsEvaluated parts kind state [] self.now.costs → IsWellFormed parts → IsState parts.variables state → IsTrue result →
             end_of parts state ops ≡ Some last → is_goal parts last ≡ false }
     {
-        some_infinite(&self.costs, self.relaxed.goals())
+        some_infinite(self.costs.as_slice(), self.relaxed.goals())
     }
 }

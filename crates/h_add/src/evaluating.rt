@@ -1,5 +1,5 @@
 // One evaluation, and which facts are left out of it.
-ghost use Rattle.std.specs.Prelude.{◌≡◌, ◌≤◌, ◌<◌, ◌++◌, ℕ, List, length, map, false, true, not, slice_set, IsTrue};
+ghost use Rattle.std.specs.Prelude.{◌≡◌, ◌++◌, ℕ, List, length, map, false, true, not, IsTrue};
 ghost use Rattle.std.specs.List.{list_all, list_any};
 ghost use Rattle.sas_task.specs.declared.contents.CostKind.{CostKind};
 ghost use Rattle.sas_task.specs.declared.contents.Parts.{Parts};
@@ -14,116 +14,114 @@ ghost use Rattle.h_add.specs.Tables.{AreTablesOf, AreSound, are_below};
 ghost use Rattle.h_add.specs.UnderWay.{IsOut, is_out};
 ghost use Rattle.h_add.specs.Values.{value_at, IsEvaluated};
 
-use crate::look::look;
-use crate::offers::offer_ready;
+use crate::costs::Costs;
+use crate::open_conditions::OpenConditions;
 use crate::pricing::estimate;
-use crate::queue::Queue;
-use crate::start::{clear, mark_all, mark_state, number};
 use crate::tables::Tables;
 use lama_num::Estimate;
 use relaxed_task::Relaxed;
 use sas_task::Fact;
 
-/// Takes back all flags.
-pub fn unset(flags: &mut [bool])
-    ensures { (fact : ℕ) → is_out flags.new fact ≡ false }
-{
-    for flag in flags.iter_mut() {
-        *flag = false;
+impl Costs {
+    /// Lets some facts cost nothing.
+    fn mark_all(&mut self, facts: &[u32])
+        ensures marked { (before : List ℕ) → are_below (length self.old.costs) facts.now ≡ true → AreMarked self.old.out before self.old.costs self.old.waiting →
+            AreMarked self.new.out (before ++ facts.now) self.new.costs self.new.waiting }
+        ensures out { self.new.out ≡ self.old.out }
+        ensures long { length self.new.costs ≡ length self.old.costs }
+    {
+        for fact in facts {
+            self.mark(*fact as usize);
+        }
     }
-}
 
-/// Lets the facts of a state and the defaults of derived variables cost nothing.
-fn begin(relaxed: &Relaxed, state: &[u32], out: &[bool], costs: &mut [u32], queue: &mut Queue)
-    requires few { length costs.old ≤ 4194304 }
-    requires facts { length costs.old ≡ relaxed.now.facts }
-    requires out { length out.now ≡ length costs.old }
-    requires flags { length queue.old ≡ length costs.old }
-    ensures marked { are_below (length costs.old) (numbers_by relaxed.now.offsets state.now) ≡ true →
-        AreMarked out.now (numbers_by relaxed.now.offsets state.now ++ relaxed.now.defaults) costs.new queue.new }
-    ensures flags { length queue.new ≡ length queue.old }
-{
-    clear(costs);
-    mark_state(out, costs, queue, relaxed.offsets(), state);
-    mark_all(out, costs, queue, relaxed.defaults());
-}
-
-/// Evaluates a state without the facts that are left out.
-pub fn evaluate_into(
-    relaxed: &Relaxed,
-    tables: &Tables,
-    state: &[u32],
-    out: &[bool],
-    costs: &mut [u32],
-    queue: &mut Queue,
-    seen: &mut [bool],
-    counts: &mut [u32],
-)
-    requires few { length costs.old ≤ 4194304 }
-    requires facts { length costs.old ≡ relaxed.now.facts }
-    requires sound { AreSound tables.now (length costs.old) }
-    requires out { length out.now ≡ length costs.old }
-    requires flags { length queue.old ≡ length costs.old }
-    requires seen { length seen.old ≡ length costs.old }
-    requires long { length counts.old ≡ length tables.now.gives }
-    ensures evaluated { (parts : Parts) (kind : CostKind) (without : List ℕ) → AreTablesOf relaxed.now.unaries tables.now → AreOnce relaxed.now.unaries →
-        IsRelaxed parts kind relaxed.now → IsState parts.variables state.now → IsOut without out.now → IsEvaluated parts kind state.now without costs.new }
-    ensures flags { length queue.new ≡ length queue.old }
-{
-    begin(relaxed, state, out, costs, queue);
-    unset(seen);
-    counts.copy_from_slice(&tables.counts);
-    offer_ready(tables, &tables.free, counts, out, costs, queue);
-    look(tables, out, costs, queue, seen, counts);
-}
-
-fn set_out(out: &mut [bool], fact: usize)
-    ensures { fact < length out.old → out.new ≡ slice_set out.old fact true }
-{
-    if fact < out.len() {
-        out[fact] = true;
+    /// Lets the facts of a state cost nothing.
+    fn mark_state(&mut self, relaxed: &Relaxed, state: &[u32])
+        ensures marked { (before : List ℕ) → are_below (length self.old.costs) (numbers_by relaxed.now.offsets state.now) ≡ true → AreMarked self.old.out before self.old.costs self.old.waiting →
+            AreMarked self.new.out (before ++ numbers_by relaxed.now.offsets state.now) self.new.costs self.new.waiting }
+        ensures out { self.new.out ≡ self.old.out }
+        ensures long { length self.new.costs ≡ length self.old.costs }
+    {
+        for (var, val) in state.iter().enumerate() {
+            self.mark(relaxed.number(var, *val));
+        }
     }
-}
 
-/// Sets the flags of facts that are left out.
-pub fn leave_out(out: &mut [bool], offsets: &[u32], excluded: &[Fact])
-    ensures { are_below (length out.old) (map (number_by offsets.now) excluded.now) ≡ true → ((fact : ℕ) → is_out out.old fact ≡ false) →
-        IsOut (map (number_by offsets.now) excluded.now) out.new }
-{
-    for fact in excluded {
-        set_out(out, number(offsets, fact.var as usize, fact.val));
+    /// Lets the facts of a state and the defaults of derived variables cost nothing, and no others.
+    fn begin(&mut self, relaxed: &Relaxed, state: &[u32])
+        requires { length self.old.costs ≡ relaxed.now.facts }
+        ensures marked { are_below relaxed.now.facts (numbers_by relaxed.now.offsets state.now) ≡ true →
+            AreMarked self.new.out (numbers_by relaxed.now.offsets state.now ++ relaxed.now.defaults) self.new.costs self.new.waiting }
+        ensures out { self.new.out ≡ self.old.out }
+        ensures long { length self.new.costs ≡ length self.old.costs }
+    {
+        self.clear();
+        self.mark_state(relaxed, state);
+        self.mark_all(relaxed.defaults());
     }
-}
 
-/// Evaluates a state without some facts.
-pub fn evaluate_without_into(
-    relaxed: &Relaxed,
-    tables: &Tables,
-    state: &[u32],
-    excluded: &[Fact],
-    out: &mut [bool],
-    costs: &mut [u32],
-    queue: &mut Queue,
-    seen: &mut [bool],
-    counts: &mut [u32],
-)
-    requires few { length costs.old ≤ 4194304 }
-    requires facts { length costs.old ≡ relaxed.now.facts }
-    requires sound { AreSound tables.now (length costs.old) }
-    requires out { length out.old ≡ length costs.old }
-    requires none_out { (fact : ℕ) → is_out out.old fact ≡ false }
-    requires flags { length queue.old ≡ length costs.old }
-    requires seen { length seen.old ≡ length costs.old }
-    requires long { length counts.old ≡ length tables.now.gives }
-    ensures evaluated { (parts : Parts) (kind : CostKind) → AreTablesOf relaxed.now.unaries tables.now → AreOnce relaxed.now.unaries →
-        IsRelaxed parts kind relaxed.now → IsState parts.variables state.now → IsTrue (list_all (is_fact parts.variables) excluded.now) →
-        IsEvaluated parts kind state.now (numbers_of parts.variables excluded.now) costs.new }
-    ensures none_out { (fact : ℕ) → is_out out.new fact ≡ false }
-    ensures flags { length queue.new ≡ length queue.old }
-{
-    leave_out(out, relaxed.offsets(), excluded);
-    evaluate_into(relaxed, tables, state, out, costs, queue, seen, counts);
-    unset(out);
+    /// Evaluates a state without the facts that are left out.
+    pub fn evaluate(
+        &mut self,
+        relaxed: &Relaxed,
+        tables: &Tables,
+        state: &[u32],
+        conditions: &mut OpenConditions,
+    )
+        requires facts { length self.old.costs ≡ relaxed.now.facts }
+        requires sound { AreSound tables.now relaxed.now.facts }
+        requires seen { length conditions.old.seen ≡ relaxed.now.facts }
+        requires counts { length conditions.old.counts ≡ length tables.now.gives }
+        ensures evaluated { (parts : Parts) (kind : CostKind) (without : List ℕ) → AreTablesOf relaxed.now.unaries tables.now → AreOnce relaxed.now.unaries →
+            IsRelaxed parts kind relaxed.now → IsState parts.variables state.now → IsOut without self.old.out → IsEvaluated parts kind state.now without self.new.costs }
+        ensures out { self.new.out ≡ self.old.out }
+        ensures costs { length self.new.costs ≡ length self.old.costs }
+        ensures counts { length conditions.new.counts ≡ length conditions.old.counts }
+        ensures seen { length conditions.new.seen ≡ length conditions.old.seen }
+    {
+        self.begin(relaxed, state);
+        conditions.begin(tables);
+        self.offer_all(tables, &tables.free, conditions);
+        self.look(tables, conditions);
+    }
+
+    /// Leaves facts out.
+    fn leave_all_out(&mut self, relaxed: &Relaxed, excluded: &[Fact])
+        ensures out { are_below (length self.old.costs) (map (number_by relaxed.now.offsets) excluded.now) ≡ true → ((fact : ℕ) → is_out self.old.out fact ≡ false) →
+            IsOut (map (number_by relaxed.now.offsets) excluded.now) self.new.out }
+        ensures long { length self.new.costs ≡ length self.old.costs }
+    {
+        for fact in excluded {
+            self.leave_out(relaxed.number(fact.var as usize, fact.val));
+        }
+    }
+
+    /// Evaluates a state without some facts, and leaves nothing out any more.
+    pub fn evaluate_without(
+        &mut self,
+        relaxed: &Relaxed,
+        tables: &Tables,
+        state: &[u32],
+        excluded: &[Fact],
+        conditions: &mut OpenConditions,
+    )
+        requires facts { length self.old.costs ≡ relaxed.now.facts }
+        requires sound { AreSound tables.now relaxed.now.facts }
+        requires none_out { (fact : ℕ) → is_out self.old.out fact ≡ false }
+        requires seen { length conditions.old.seen ≡ relaxed.now.facts }
+        requires counts { length conditions.old.counts ≡ length tables.now.gives }
+        ensures evaluated { (parts : Parts) (kind : CostKind) → AreTablesOf relaxed.now.unaries tables.now → AreOnce relaxed.now.unaries →
+            IsRelaxed parts kind relaxed.now → IsState parts.variables state.now → IsTrue (list_all (is_fact parts.variables) excluded.now) →
+            IsEvaluated parts kind state.now (numbers_of parts.variables excluded.now) self.new.costs }
+        ensures none_out { (fact : ℕ) → is_out self.new.out fact ≡ false }
+        ensures costs { length self.new.costs ≡ length self.old.costs }
+        ensures counts { length conditions.new.counts ≡ length conditions.old.counts }
+        ensures seen { length conditions.new.seen ≡ length conditions.old.seen }
+    {
+        self.leave_all_out(relaxed, excluded);
+        self.evaluate(relaxed, tables, state, conditions);
+        self.let_all_in();
+    }
 }
 
 /// What a fact costs, by its number.

@@ -5,16 +5,18 @@
 #![tactic(auto)]
 
 mod add;
+mod costs;
 mod evaluating;
 mod look;
 mod needs;
 mod offers;
+mod open_conditions;
 mod pricing;
 mod queue;
 mod rows;
-mod start;
 mod tables;
 
 pub use add::Add;
+pub use open_conditions::OpenConditions;
 pub use rows::{Rows, Span};
 pub use tables::Tables;

@@ -50,12 +50,15 @@ fn with_cost(cost: u32, total: u32) -> u32
     }
 }
 
-/// What a unary operator asks for.
-pub fn price(tables: &Tables, i: usize, costs: &[u32]) -> u32
-    requires sound { AreSound tables.now (length costs.now) }
-    requires within { i < length tables.now.gives }
-    ensures { (unaries : List Unary) (u : Unary) → AreTablesOf unaries tables.now → slice_get unaries i ≡ Some u →
-        estimate_of result ≡ price_of (value_at costs.now) u }
-{
-    with_cost(tables.costs[i], total(costs, tables.conds.row(i)))
+impl Tables {
+    /// What a unary operator asks for: its cost, and what its conditions cost. A sum above
+    /// 1,000,000,000 is that, and where a condition is infinite so is the price.
+    pub fn price(&self, place: usize, costs: &[u32]) -> u32
+        requires sound { AreSound self.now (length costs.now) }
+        requires within { place < length self.now.gives }
+        ensures { (unaries : List Unary) (u : Unary) → AreTablesOf unaries self.now → slice_get unaries place ≡ Some u →
+            estimate_of result ≡ price_of (value_at costs.now) u }
+    {
+        with_cost(self.costs[place], total(costs, self.conds.row(place)))
+    }
 }

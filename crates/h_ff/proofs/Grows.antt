@@ -18,17 +18,8 @@ use Rattle.relaxed_task.specs.Supports.{AreLeast, finite_had}
 use Rattle.relaxed_task.specs.Kept.{kept, kept_is_supported}
 use Rattle.h_ff.specs.Best.{is_given, is_same, is_ready, clear_flags}
 use Rattle.h_ff.specs.Orders.{chosen, given_by, IsOrder, are_places}
-
-both : (a b : Bool) → (a && b) ≡ true → (a ≡ true) × (b ≡ true)
-both true b e = (refl, e)
-both false b e = let k : false ≡ true = e in cc
-
-places : (m n : ℕ) → ((m ≡ n) × (nat_eq m n ≡ true)) ⊎ ((m ≢ n) × (nat_eq m n ≡ false))
-places m n = grind (arith, nat_tests)
-
-denied : (b : Bool) → not b ≡ true → b ≡ false
-denied true h = let k : false ≡ true = h in cc
-denied false h = refl
+use Rattle.relaxed_task.specs.Elements.{denied, join, places}
+use Rattle.lama_num.specs.Lists.{both}
 
 pub same_is : (a b : Estimate) → is_same a b ≡ true → a ≡ b
 same_is (Finite a) (Finite b) h = let e : a ≡ b = grind (arith, nat_tests) in cc
@@ -124,9 +115,6 @@ grows unaries start costs given order i u at lt ready is =
         get_or-set_other given u.gives fact true false other.0 ∙ (was ∙ (or_no (is_among (start ++ given_by (chosen unaries order)) fact)
         ∙ (ap (λ (b : Bool). is_among (start ++ given_by (chosen unaries order)) fact || b) (sym other.1) ∙ sym (split fact))))
 
-join : (a b : Bool) → a ≡ true → b ≡ true → (a && b) ≡ true
-join a b e h = rw e h
-
 -- where nothing is ready, every fact that costs something finite is given
 pub all_given : (unaries : List Unary) (start : List ℕ) (costs : ℕ → Estimate) (given : List Bool) (order : List ℕ) → AreLeast unaries start costs → IsOrder unaries start costs given order →
     ((i : ℕ) (u : Unary) → slice_get unaries i ≡ Some u → is_ready given costs u ≡ false) → (fact : ℕ) → is_finite (costs fact) ≡ true → is_given given fact ≡ true
@@ -164,13 +152,3 @@ clear_falls (true ∷ flags) zero lt is = let k : true ≡ false = is in cc
 clear_falls (false ∷ flags) zero lt is = omega arith
 clear_falls (true ∷ flags) (suc i) lt is = clear_falls flags i (omega arith) is
 clear_falls (false ∷ flags) (suc i) lt is = let rest = clear_falls flags i (omega arith) is in omega arith
-
--- what a taken one makes of the clear flags
-pub taken_falls : (given : List Bool) (costs : ℕ → Estimate) (u : Unary) → u.gives < length given → is_ready given costs u ≡ true → clear_flags (slice_set given u.gives true) + 1 ≡ clear_flags given
-taken_falls given costs u lt ready = clear_falls given u.gives lt (denied (is_given given u.gives) (both (not (is_given given u.gives)) _ ready).0)
-
-pub not_ready : (unaries : List Unary) (given : List Bool) (costs : ℕ → Estimate) (i : ℕ) (u x : Unary) → slice_get unaries i ≡ Some x → is_ready given costs x ≡ false → slice_get unaries i ≡ Some u → is_ready given costs u ≡ false
-not_ready unaries given costs i u x at never is =
-    let k : Some x ≡ Some u = sym at ∙ is in
-    let same : x ≡ u = cc in
-    ap (is_ready given costs) (sym same) ∙ never

@@ -7,7 +7,7 @@ use Rattle.relaxed_task.specs.Plans.{asked}
 use Rattle.std.proofs.lemmas.List.{reverse-append}
 use Rattle.h_ff.proofs.Grows.{chosen_grows}
 use Rattle.relaxed_task.specs.Kept.{kept}
-use Rattle.h_ff.proofs.Lists.{drop_within}
+use Rattle.relaxed_task.specs.Elements.{drop_within}
 use Rattle.h_ff.specs.Best.{is_given}
 use Rattle.h_ff.specs.Orders.{chosen, AreMarked, kept_places}
 

@@ -1,8 +1,10 @@
+pub mod Bests
 pub mod Grows
 pub mod Keeping
 pub mod Lists
 pub mod Looking
 pub mod Ordering
 pub mod Planning
+pub mod Rooms
 pub mod Starts
 pub mod UsedOperators

@@ -1,5 +1,5 @@
 -- Elements of lists by place.
-use Rattle.std.proofs.Common.{◌≡◌, ◌∙◌, sym, ap, refl, ℕ, zero, suc, ◌+◌, ◌<◌, List, [], ◌∷◌, length, get_or, drop, Bool, true, false, ◌&&◌, arith, Some, slice_get, nat_lt}
+use Rattle.std.proofs.Common.{◌≡◌, ◌∙◌, sym, ap, ℕ, zero, suc, ◌<◌, List, [], ◌∷◌, length, map, get_or, Bool, true, arith, Some, slice_get, nat_lt}
 use Rattle.std.specs.List.{list_all}
 use Rattle.std.proofs.lemmas.Bool.Decides.{nat_tests}
 use Rattle.std.proofs.lemmas.Option.{slice_get-get_or}
@@ -7,18 +7,11 @@ use Rattle.std.proofs.lemmas.List.{get_or_default}
 use Rattle.relaxed_task.specs.declared.unary.Unary.{Unary}
 use Rattle.relaxed_task.specs.Unaries.{is_below, is_unary_below}
 use Rattle.h_ff.specs.Orders.{are_places}
-
-both : (a b : Bool) → (a && b) ≡ true → (a ≡ true) × (b ≡ true)
-both true b e = (refl, e)
-both false b e = let k : false ≡ true = e in cc
+use Rattle.lama_num.specs.Lists.{both, list_all_get}
+use Rattle.h_add.specs.Laws.{unary_at}
 
 pub at_place : {X : Type 0} (xs : List X) (i : ℕ) (x : X) → i < length xs → x ≡ get_or xs i x → slice_get xs i ≡ Some x
 at_place xs i x lt is = slice_get-get_or xs i x lt ∙ ap (λ (y : _). Some y) (sym is)
-
-pub drop_within : (xs : List ℕ) (i x : ℕ) → i < length xs → x ≡ get_or xs i 0 → drop i xs ≡ x ∷ drop (i + 1) xs
-drop_within [] i x lt at = absurd (omega arith)
-drop_within (y ∷ xs) zero x lt at = let same : x ≡ y = at in cc
-drop_within (y ∷ xs) (suc i) x lt at = let z : suc i + 1 ≡ suc (i + 1) = omega arith in rw z (drop_within xs i x (omega arith) at)
 
 pub all_at : {X : Type 0} (p : X → Bool) (xs : List X) (i : ℕ) (x : X) → list_all p xs ≡ true → i < length xs → x ≡ get_or xs i x → p x ≡ true
 all_at p [] i x all lt at = absurd (omega arith)
@@ -39,3 +32,14 @@ pub place_at : (n : ℕ) (order : List ℕ) (i x : ℕ) → are_places n order �
 place_at n order i x all lt at =
     let here : nat_lt x n ≡ true = all_at (λ k. nat_lt k n) order i x all lt (at ∙ get_or_default order i 0 x lt) in
     grind (arith, nat_tests, here)
+
+pub below_get : (n : ℕ) (facts : List ℕ) (i x : ℕ) → list_all (is_below n) facts ≡ true → slice_get facts i ≡ Some x → x < n
+below_get n facts i x all at = let h : nat_lt x n ≡ true = list_all_get (is_below n) facts i x all at in grind (arith, nat_tests, h)
+
+-- what the unary operator at a place gives
+pub gives_at : (unaries : List Unary) (gives : List ℕ) (i x : ℕ) (u : Unary) → gives ≡ map (λ u. u.gives) unaries → slice_get gives i ≡ Some x → slice_get unaries i ≡ Some u → x ≡ u.gives
+gives_at unaries gives i x u is at here =
+    let there = unary_at unaries gives i x is at in
+    let k : Some there.unary ≡ Some u = sym there.at ∙ here in
+    let same : there.unary ≡ u = cc in
+    there.gives ∙ ap (λ (y : Unary). y.gives) same

@@ -23,10 +23,7 @@ use Rattle.h_ff.specs.RelaxedPlans.{ops_of, AreOperatorsOf, HasPlan, cost_of}
 use Rattle.h_ff.proofs.Grows.{plan_of_order}
 use Rattle.h_ff.proofs.Keeping.{places_of_plan}
 use Rattle.h_ff.proofs.UsedOperators.{ops_reversed, ops_forward}
-
-both : (a b : Bool) → (a && b) ≡ true → (a ≡ true) × (b ≡ true)
-both true b e = (refl, e)
-both false b e = let k : false ≡ true = e in absurd cc
+use Rattle.lama_num.specs.Lists.{both}
 
 places_grow : (n : ℕ) (order : List ℕ) (i : ℕ) → are_places n order ≡ true → nat_lt i n ≡ true → are_places n (order ++ i ∷ []) ≡ true
 places_grow n [] i all lt = rw lt refl

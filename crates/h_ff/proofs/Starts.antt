@@ -1,15 +1,11 @@
 -- Facts that are found at the start.
-use Rattle.std.proofs.Common.{◌≡◌, ◌≢◌, ◌∙◌, sym, ap, refl, ℕ, zero, suc, ◌+◌, ◌<◌, ◌≤◌, ◌⊎◌, inl, inr, List, [], ◌∷◌, ◌++◌, length, get_or, take, map, replicate, Bool, true, false, nat_eq, ◌||◌, arith, slice_index, slice_set, get_or-set_other, get_or-set_same}
-use Rattle.std.specs.List.{enumerate_from}
-use Rattle.std.proofs.lemmas.Bool.Decides.{nat_tests}
-use Rattle.std.proofs.lemmas.List.{take_more, take_all}
+use Rattle.std.proofs.Common.{◌≡◌, ◌≢◌, ◌∙◌, sym, ap, refl, ℕ, zero, suc, ◌+◌, ◌<◌, ◌≤◌, ◌⊎◌, inl, inr, List, [], ◌∷◌, ◌++◌, length, get_or, take, replicate, Bool, true, false, nat_eq, ◌||◌, arith, slice_set, get_or-set_other, get_or-set_same}
+use Rattle.std.proofs.lemmas.List.{take_more, take_all, get_or_default}
 use Rattle.std.proofs.lemmas.List.Folds.{list_any-append}
-use Rattle.relaxed_task.specs.Numbers.{number_by, numbers_by, fact_at}
 use Rattle.relaxed_task.specs.Reached.{is_among}
 use Rattle.h_ff.specs.Best.{is_given, clear_flags}
-
-places : (m n : ℕ) → ((m ≡ n) × (nat_eq m n ≡ true)) ⊎ ((m ≢ n) × (nat_eq m n ≡ false))
-places m n = grind (arith, nat_tests)
+use Rattle.h_ff.specs.Passes.{Passing, IsBegun}
+use Rattle.relaxed_task.specs.Elements.{places}
 
 -- no flag
 pub none_given : (n fact : ℕ) → is_given (replicate n false) fact ≡ false
@@ -20,6 +16,10 @@ none_given (suc n) (suc fact) = none_given n fact
 pub all_clear : (n : ℕ) → clear_flags (replicate n false) ≡ n
 all_clear zero = refl
 all_clear (suc n) = let rest = all_clear n in omega arith
+
+-- a flag that was read
+pub read_clear : (flags : List Bool) (i : ℕ) (b : Bool) → i < length flags → b ≡ get_or flags i b → b ≡ false → is_given flags i ≡ false
+read_clear flags i b lt read off = get_or_default flags i false b lt ∙ (sym read ∙ off)
 
 -- one more flag
 pub one_flag : (flags : List Bool) (fact other : ℕ) → fact < length flags → is_given (slice_set flags fact true) other ≡ (nat_eq other fact || is_given flags other)
@@ -47,6 +47,15 @@ one_queued queue flags fact lt is other = list_any-append (nat_eq other) queue (
     turn false true = refl
     turn false false = refl
 
+-- a fact more is given at the start
+pub begun_more : (p : Passing) (fact : ℕ) (grown : List ℕ) → fact < length p.queued → length p.given ≡ length p.queued → grown ≡ p.queue ++ fact ∷ [] → IsBegun p →
+    IsBegun (record { given = slice_set p.given fact true; queued = slice_set p.queued fact true; supporters = p.supporters; queue = grown; order = p.order })
+begun_more p fact grown lt long is b = record {
+  given_is = λ other. one_flag p.given fact other (omega arith) ∙ (ap (λ (x : Bool). nat_eq other fact || x) (b.given_is other) ∙ sym (one_flag p.queued fact other lt));
+  queue_is = λ other. rw is (one_queued p.queue p.queued fact lt b.queue_is other);
+  order_is = b.order_is;
+}
+
 -- one more of a list
 pub found_more : (xs : List ℕ) (i x : ℕ) (first old new : List Bool) → i < length xs → x ≡ get_or xs i 0 → ((other : ℕ) → is_given new other ≡ (nat_eq other x || is_given old other)) →
     ((other : ℕ) → is_given old other ≡ (is_among (take i xs) other || is_given first other)) → (other : ℕ) → is_given new other ≡ (is_among (take (i + 1) xs) other || is_given first other)
@@ -61,19 +70,3 @@ found_more xs i x first old new lt at now before other =
 
 pub found_all : (xs : List ℕ) (i : ℕ) (first new : List Bool) → length xs ≤ i → ((other : ℕ) → is_given new other ≡ (is_among (take i xs) other || is_given first other)) → (other : ℕ) → is_given new other ≡ (is_among xs other || is_given first other)
 found_all xs i first new le before other = before other ∙ ap (λ (ys : List ℕ). is_among ys other || is_given first other) (take_all i xs le)
-
--- the numbers of a state's facts, place by place
-at_from : (offsets : List ℕ) (k : ℕ) (state : List ℕ) (i : ℕ) → i < length state → get_or (map (λ p. number_by offsets (fact_at p.0 p.1)) (enumerate_from k state)) i 0 ≡ slice_index offsets (k + i) + slice_index state i
-at_from offsets k [] i lt = absurd (omega arith)
-at_from offsets k (x ∷ state) zero lt = let z : k + 0 ≡ k = omega arith in rw z refl
-at_from offsets k (x ∷ state) (suc i) lt = let z : k + suc i ≡ (k + 1) + i = omega arith in rw z (at_from offsets (k + 1) state i (omega arith))
-
-long_from : (offsets : List ℕ) (k : ℕ) (state : List ℕ) → length (map (λ p. number_by offsets (fact_at p.0 p.1)) (enumerate_from k state)) ≡ length state
-long_from offsets k [] = refl
-long_from offsets k (x ∷ state) = let rest = long_from offsets (k + 1) state in omega arith
-
-pub number_at : (offsets state : List ℕ) (i : ℕ) → i < length state → get_or (numbers_by offsets state) i 0 ≡ slice_index offsets i + slice_index state i
-number_at offsets state i lt = let z : 0 + i ≡ i = omega arith in at_from offsets 0 state i lt ∙ ap (λ (n : ℕ). slice_index offsets n + slice_index state i) z
-
-pub long_numbers : (offsets state : List ℕ) → length (numbers_by offsets state) ≡ length state
-long_numbers offsets state = long_from offsets 0 state

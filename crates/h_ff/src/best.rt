@@ -1,68 +1,33 @@
 // Best supporters.
-ghost use Rattle.std.specs.Prelude.{◌≡◌};
-ghost use Rattle.relaxed_task.specs.Sums.{price as price_of, total as total_of};
+ghost use Rattle.std.specs.Prelude.{◌≡◌, ◌<◌, List, length, slice_get, Some};
+ghost use Rattle.relaxed_task.specs.declared.unary.Unary.{Unary};
+ghost use Rattle.h_add.specs.Tables.{AreTablesOf, AreSound};
 ghost use Rattle.h_add.specs.Values.{value_at};
-ghost use Rattle.h_ff.specs.Best.{is_same as same, is_best as best, is_fit as fit, is_ready as ready};
+ghost use Rattle.h_ff.specs.Best.{is_best as best, is_ready as ready};
 
 use crate::flags::{all_flagged, flag};
-use lama_num::Estimate;
-use relaxed_task::Unary;
-
-fn value_of(costs: &[u32], fact: u32) -> Estimate
-    ensures { result ≡ value_at costs.now fact }
-{
-    match costs.get(fact as usize) {
-        Some(cost) if *cost <= 1_000_000_000 => Estimate::Finite(*cost),
-        _ => Estimate::Infinite,
-    }
-}
-
-/// What facts cost together.
-fn total(costs: &[u32], facts: &[u32]) -> Estimate
-    ensures { result ≡ total_of (value_at costs.now) facts.now }
-{
-    let mut sum = Estimate::Finite(0);
-    for place in (0..facts.len()).rev() {
-        sum = value_of(costs, facts[place]).plus(sum);
-    }
-    sum
-}
-
-fn price(costs: &[u32], unary: &Unary) -> Estimate
-    ensures { result ≡ price_of (value_at costs.now) unary.now }
-{
-    Estimate::Finite(unary.cost).plus(total(costs, &unary.conds))
-}
-
-fn is_same(a: Estimate, b: Estimate) -> bool
-    ensures { result ≡ same a b }
-{
-    match (a, b) {
-        (Estimate::Finite(a), Estimate::Finite(b)) => a == b,
-        (Estimate::Infinite, Estimate::Infinite) => true,
-        _ => false,
-    }
-}
+use h_add::Tables;
+use lama_num::LARGEST_ESTIMATE;
 
 /// Whether a unary operator gives its fact for what the fact costs.
-fn is_best(costs: &[u32], unary: &Unary) -> bool
-    ensures { result ≡ best (value_at costs.now) unary.now }
+fn is_best(tables: &Tables, costs: &[u32], place: usize) -> bool
+    requires costs { AreSound tables.now (length costs.now) }
+    requires place { place < length tables.now.gives }
+    ensures { (unaries : List Unary) (u : Unary) → AreTablesOf unaries tables.now → slice_get unaries place ≡ Some u →
+        result ≡ best (value_at costs.now) u }
 {
-    match value_of(costs, unary.gives) {
-        Estimate::Finite(cost) => is_same(price(costs, unary), Estimate::Finite(cost)),
-        Estimate::Infinite => false,
-    }
-}
-
-fn is_fit(given: &[bool], costs: &[u32], unary: &Unary) -> bool
-    ensures { result ≡ fit given.now (value_at costs.now) unary.now }
-{
-    all_flagged(given, &unary.conds) && is_best(costs, unary)
+    let cost = costs[tables.gives[place] as usize];
+    cost <= LARGEST_ESTIMATE && tables.price(place, costs) == cost
 }
 
 /// Whether a unary operator is a best supporter of a fact that isn't given yet, with conditions that are.
-pub fn is_ready(given: &[bool], costs: &[u32], unary: &Unary) -> bool
-    ensures { result ≡ ready given.now (value_at costs.now) unary.now }
+pub fn is_ready(given: &[bool], tables: &Tables, costs: &[u32], place: usize) -> bool
+    requires costs { AreSound tables.now (length costs.now) }
+    requires place { place < length tables.now.gives }
+    ensures { (unaries : List Unary) (u : Unary) → AreTablesOf unaries tables.now → slice_get unaries place ≡ Some u →
+        result ≡ ready given.now (value_at costs.now) u }
 {
-    !flag(given, unary.gives) && is_fit(given, costs, unary)
+    !flag(given, tables.gives[place])
+        && all_flagged(given, tables.conds.row(place))
+        && is_best(tables, costs, place)
 }

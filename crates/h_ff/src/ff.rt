@@ -1,18 +1,17 @@
 // The FF estimate.
-ghost use Rattle.std.specs.Prelude.{◌≡◌, ◌<◌, ◌≤◌, ◌^◌, ℕ, List, [], length, false, Some, IfOk, OnOk};
+ghost use Rattle.std.specs.Prelude.{◌≡◌, ℕ, List, [], length, false, Some, IfOk};
 ghost use Rattle.sas_task.specs.Runs.{end_of, is_goal};
 ghost use Rattle.sas_task.specs.States.{IsState};
 ghost use Rattle.sas_task.specs.WellFormed.{IsWellFormed};
 ghost use Rattle.relaxed_task.specs.Relaxations.{IsRelaxed};
 ghost use Rattle.h_add.specs.Counts.{AreOnce};
-ghost use Rattle.h_ff.specs.Buffers.{IsReady};
 ghost use Rattle.h_ff.specs.RelaxedPlans.{IsFf};
 
-use crate::buffers::{Buffers, order_best, plan_best};
-use crate::operators::{cost, preferred_into};
-use h_add::Add;
+use crate::operators::cost;
+use crate::pass::Pass;
+use crate::plan::RelaxedPlan;
+use h_add::{Add, OpenConditions};
 use lama_num::{Estimate, NoMemory};
-use relaxed_task::Relaxed;
 use sas_task::{CostKind, Task};
 use std::alloc::Global;
 use std::marker::Model;
@@ -31,7 +30,9 @@ use std::marker::Model;
 pub struct Ff {
     add: Add,
     kind: CostKind,
-    buffers: Buffers,
+    conditions: OpenConditions,
+    pass: Pass,
+    plan: RelaxedPlan,
 }
 
 impl Model for Ff {
@@ -39,33 +40,27 @@ impl Model for Ff {
 
     ghost Value = { Planner };
 
-    ghost view = { λ f. record { relaxed = f.add.relaxed; kind = f.kind; plan = f.buffers.plan.items; preferred = f.buffers.preferred.items } };
+    ghost view = { λ f. record { relaxed = f.add.relaxed; kind = f.kind; plan = f.plan.operators; preferred = f.plan.preferred } };
 
-    ghost invariant = { λ f. IsKept f.add.relaxed f.buffers };
+    ghost invariant = { λ f. IsKept f.add.relaxed f.conditions f.pass f.plan };
 }
 
-/// The buffers for a relaxation.
-fn buffers_for(alloc: Global, relaxed: &Relaxed) -> Result<Buffers, NoMemory>
-    ensures ready { IfOk result (λ buffers. IsReady relaxed.now.facts (length relaxed.now.unaries) buffers) }
-    ensures few { OnOk result ((length relaxed.now.unaries < 2 ^ 32) × (relaxed.now.facts ≤ 4194304)) }
+/// The evaluator over an additive one.
+fn planner(alloc: Global, add: Add, kind: CostKind) -> Result<Ff, NoMemory>
+    requires { AreOnce add.relaxed.unaries }
+    ensures { IfOk result (λ ff. ff ≡ record { relaxed = add.relaxed; kind = kind; plan = []; preferred = [] }) }
 {
-    let facts = relaxed.facts() as usize;
-    let unaries = relaxed.unary().len();
-    // They are numbered with 32 bits: where there are more, there is no memory for them.
-    if unaries >= 4_294_967_296 {
-        return Err(NoMemory);
-    }
-    Ok(Buffers::new(alloc, facts, unaries)?)
-}
-
-fn planner(add: Add, kind: CostKind, buffers: Buffers) -> Ff
-    requires few_facts { add.relaxed.facts ≤ 4194304 }
-    requires few { length add.relaxed.unaries < 2 ^ 32 }
-    requires once { AreOnce add.relaxed.unaries }
-    requires ready { IsReady add.relaxed.facts (length add.relaxed.unaries) buffers }
-    ensures { result ≡ record { relaxed = add.relaxed; kind = kind; plan = []; preferred = [] } }
-{
-    Ff { add, kind, buffers }
+    let facts = add.relaxed().facts() as usize;
+    let conditions = OpenConditions::new(alloc, add.relaxed().unary().len(), facts)?;
+    let pass = Pass::new(alloc, facts)?;
+    let plan = RelaxedPlan::new(alloc, facts)?;
+    Ok(Ff {
+        add,
+        kind,
+        conditions,
+        pass,
+        plan,
+    })
 }
 
 impl Ff {
@@ -77,8 +72,7 @@ impl Ff {
         ensures preferred { IfOk result (λ ff. ff.preferred ≡ []) }
     {
         let add = Add::new(alloc, task, kind)?;
-        let buffers = buffers_for(alloc, add.relaxed())?;
-        Ok(planner(add, kind, buffers))
+        planner(alloc, add, kind)
     }
 
     /// The estimate of a state of the task: what the operators of a relaxed plan cost together, each
@@ -93,39 +87,28 @@ impl Ff {
         ensures safe { (ops last : List ℕ) → IsRelaxed task.now self.old.kind self.old.relaxed → IsWellFormed task.now → IsState task.now.variables state.now →
             result ≡ Estimate.Infinite → end_of task.now state.now ops ≡ Some last → is_goal task.now last ≡ false }
     {
-        self.buffers.plan.clear();
-        self.buffers.preferred.clear();
+        self.plan.clear();
         self.add.evaluate(state);
         if self.add.is_dead() {
             return Estimate::Infinite;
         }
-        order_best(
-            &self.add,
-            state,
-            &mut self.buffers.flags,
-            &mut self.buffers.queues,
-        );
-        plan_best(
-            self.add.relaxed(),
-            &mut self.buffers.flags,
-            &mut self.buffers.queues,
-            &mut self.buffers.plan,
-        );
-        preferred_into(task, state, &self.buffers.plan, &mut self.buffers.preferred);
-        Estimate::Finite(cost(task, self.kind, &self.buffers.plan))
+        self.pass.order_best(&self.add, state, &mut self.conditions);
+        self.plan.find(self.add.relaxed(), self.pass.order());
+        self.plan.prefer(task, state);
+        Estimate::Finite(cost(task, self.kind, self.plan.operators()))
     }
 
     /// The operators of the relaxed plan, ascending, each once; none where the state is dead.
     pub fn relaxed_plan(&self) -> &[u32]
         ensures { result.now ≡ self.now.plan }
     {
-        &self.buffers.plan
+        self.plan.operators()
     }
 
     /// Those operators of the relaxed plan that are applicable in the state, ascending.
     pub fn preferred(&self) -> &[u32]
         ensures { result.now ≡ self.now.preferred }
     {
-        &self.buffers.preferred
+        self.plan.preferred()
     }
 }

@@ -3,7 +3,6 @@
 #![tactic(auto)]
 
 mod best;
-mod buffers;
 mod ff;
 mod flags;
 mod keep;
@@ -11,7 +10,7 @@ mod look;
 mod offers;
 mod operators;
 mod order;
+mod pass;
 mod plan;
-mod start;
 
 pub use ff::Ff;

@@ -1,5 +1,5 @@
 -- What is made by where each variable's facts begin is what the task's facts by number are.
-use Rattle.std.specs.Prelude.{◌≡◌, ℕ, ◌+◌, ◌<◌, suc, List, [], ◌∷◌, ◌++◌, length, Bool, true, false, ◌&&◌, nat_lt, map, filter, slice_index, if◌then◌else◌}
+use Rattle.std.specs.Prelude.{◌≡◌, ℕ, ◌+◌, ◌<◌, suc, List, [], ◌∷◌, ◌++◌, length, Bool, true, false, nat_lt, map, filter, slice_index, if◌then◌else◌}
 use Rattle.std.specs.List.{list_all, enumerate_from, flat_map}
 use Rattle.std.proofs.Common.{arith, refl, ap, ◌∙◌}
 use Rattle.std.proofs.lemmas.Bool.Decides.{nat_tests}
@@ -22,9 +22,7 @@ use Rattle.relaxed_task.specs.Reached.{defaults_of}
 use Rattle.relaxed_task.specs.Relaxations.{IsOffsets}
 use Rattle.relaxed_task.specs.Within.{weaker, effect_facts, operator_facts, rule_facts, operators_facts, rules_facts}
 use Rattle.relaxed_task.specs.Making.{has_number, have_numbers, effect_has_numbers, operator_has_numbers, rule_has_numbers, all_numbers_by, effect_by, rule_by, operator_by, operators_by, defaults_by}
-
-join : (a b : Bool) → a ≡ true → b ≡ true → (a && b) ≡ true
-join a b e h = rw e h
+use Rattle.relaxed_task.specs.Elements.{join}
 
 below : (a b : ℕ) → a < b → nat_lt a b ≡ true
 below a b lt = grind (arith, nat_tests)

@@ -21,6 +21,7 @@ use Rattle.relaxed_task.specs.Within.{is_within, effect_is_within, rule_is_withi
 use Rattle.relaxed_task.specs.Numbers.{number_of, numbers_of, distinct, fact_at, facts_of}
 use Rattle.relaxed_task.specs.Unaries.{unaries_of, unary_of_effect, unary_of_rule, unaries_of_operator}
 use Rattle.relaxed_task.specs.Reached.{start_facts, defaults_of, is_among, is_in_round, IsDead}
+use Rattle.relaxed_task.specs.Elements.{join}
 
 left : (a b : Bool) → a ≡ true → (a || b) ≡ true
 left a b e = rw e refl
@@ -28,9 +29,6 @@ left a b e = rw e refl
 right : (a b : Bool) → b ≡ true → (a || b) ≡ true
 right true b e = refl
 right false b e = e
-
-join : (a b : Bool) → a ≡ true → b ≡ true → (a && b) ≡ true
-join a b e h = rw e h
 
 same_number : (n : ℕ) → nat_eq n n ≡ true
 same_number n = grind (arith, nat_tests)

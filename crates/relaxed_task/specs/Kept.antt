@@ -1,5 +1,5 @@
 -- Of an order of best supporters, those that are needed are a relaxed plan.
-use Rattle.std.proofs.Common.{◌≡◌, ◌≢◌, ◌∙◌, sym, ap, refl, ℕ, ◌⊎◌, inl, inr, List, [], ◌∷◌, ◌++◌, map, Bool, true, false, nat_eq, ◌&&◌, ◌||◌, arith, if◌then◌else◌}
+use Rattle.std.proofs.Common.{◌≡◌, ◌≢◌, ◌∙◌, sym, ap, refl, ℕ, ◌⊎◌, inl, inr, List, [], ◌∷◌, ◌++◌, map, Bool, true, false, nat_eq, ◌||◌, arith, if◌then◌else◌}
 use Rattle.std.specs.List.{list_all}
 use Rattle.std.proofs.lemmas.Bool.Decides.{nat_tests}
 use Rattle.std.proofs.lemmas.List.Folds.{list_any-append}
@@ -7,13 +7,8 @@ use Rattle.lama_num.specs.declared.estimates.Estimate.{Estimate}
 use Rattle.relaxed_task.specs.declared.unary.Unary.{Unary}
 use Rattle.relaxed_task.specs.Reached.{is_among}
 use Rattle.relaxed_task.specs.Plans.{IsInOrder, IsAsked, AreBest, IsSupported, asked}
-
-both : (a b : Bool) → (a && b) ≡ true → (a ≡ true) × (b ≡ true)
-both true b e = (refl, e)
-both false b e = let k : false ≡ true = e in cc
-
-join : (a b : Bool) → a ≡ true → b ≡ true → (a && b) ≡ true
-join a b e h = rw e h
+use Rattle.lama_num.specs.Lists.{both}
+use Rattle.relaxed_task.specs.Elements.{join, places}
 
 left : (a b : Bool) → a ≡ true → (a || b) ≡ true
 left a b e = rw e refl
@@ -25,9 +20,6 @@ right false b e = e
 either : (a b : Bool) → (a || b) ≡ true → (a ≡ true) ⊎ (b ≡ true)
 either true b e = inl refl
 either false b e = inr e
-
-places : (m n : ℕ) → ((m ≡ n) × (nat_eq m n ≡ true)) ⊎ ((m ≢ n) × (nat_eq m n ≡ false))
-places m n = grind (arith, nat_tests)
 
 -- a list within another, fact by fact
 abbrev pub IsWithin : List ℕ → List ℕ → Type 0

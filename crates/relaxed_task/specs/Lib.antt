@@ -2,6 +2,7 @@ pub mod AddLaws
 pub mod AnyOrder
 pub mod DeadEnds
 pub mod DeadLaws
+pub mod Elements
 pub mod Estimates
 pub mod FactLaws
 pub mod FactRounds

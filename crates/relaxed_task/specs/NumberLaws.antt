@@ -155,3 +155,19 @@ state_below variables state of =
   where
     below : (a b : ℕ) → a < b → nat_lt a b ≡ true
     below a b lt = grind (arith, nat_tests)
+
+-- the numbers of a state, place by place
+pub long_numbers : (offsets state : List ℕ) → length (numbers_by offsets state) ≡ length state
+long_numbers offsets state = go 0 state
+  where
+    go : (n : ℕ) (xs : List ℕ) → length (map (λ (p : ℕ × ℕ). number_by offsets (fact_at p.0 p.1)) (enumerate_from n xs)) ≡ length xs
+    go n [] = refl
+    go n (x ∷ xs) = ap suc (go (n + 1) xs)
+
+pub number_at : (offsets state : List ℕ) (i : ℕ) → i < length state → get_or (numbers_by offsets state) i 0 ≡ get_or offsets i 0 + get_or state i 0
+number_at offsets state i lt = let z : 0 + i ≡ i = omega arith in go 0 state i lt ∙ ap (λ (k : ℕ). get_or offsets k 0 + get_or state i 0) z
+  where
+    go : (n : ℕ) (xs : List ℕ) (i : ℕ) → i < length xs → get_or (map (λ (p : ℕ × ℕ). number_by offsets (fact_at p.0 p.1)) (enumerate_from n xs)) i 0 ≡ get_or offsets (n + i) 0 + get_or xs i 0
+    go n [] i lt = absurd (omega arith)
+    go n (x ∷ xs) zero lt = let z : n + 0 ≡ n = omega arith in rw z refl
+    go n (x ∷ xs) (suc i) lt = let z : n + suc i ≡ n + 1 + i = omega arith in rw z (go (n + 1) xs i (omega arith))

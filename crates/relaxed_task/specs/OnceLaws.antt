@@ -14,14 +14,12 @@ use Rattle.relaxed_task.specs.declared.unary.Unary.{Unary}
 use Rattle.relaxed_task.specs.Numbers.{numbers_of, distinct}
 use Rattle.relaxed_task.specs.Unaries.{unaries_of, unaries_of_operator, unary_of_effect, unary_of_rule}
 use Rattle.relaxed_task.specs.Reached.{is_among}
+use Rattle.relaxed_task.specs.Elements.{denied, join}
 
 -- no fact twice
 abbrev pub is_once : List ℕ → Bool
 is_once [] = true
 is_once (x ∷ xs) = not (is_among xs x) && is_once xs
-
-join : (a b : Bool) → a ≡ true → b ≡ true → (a && b) ≡ true
-join a b e h = rw e h
 
 places : (m n : ℕ) → ((m ≡ n) × (nat_eq m n ≡ true)) ⊎ (nat_eq m n ≡ false)
 places m n = grind (arith, nat_tests)
@@ -46,10 +44,6 @@ filter_once p (x ∷ xs) once =
     let parts = both (not (is_among xs x)) (is_once xs) once in
     by_test (p x) (not_among p xs x (denied (is_among xs x) parts.0)) (filter_once p xs parts.1)
   where
-    denied : (b : Bool) → not b ≡ true → b ≡ false
-    denied true h = let k : false ≡ true = h in cc
-    denied false h = refl
-
     by_test : (b : Bool) → is_among (filter p xs) x ≡ false → is_once (filter p xs) ≡ true → is_once (if b then x ∷ filter p xs else filter p xs) ≡ true
     by_test true none rest = rw none rest
     by_test false none rest = rest

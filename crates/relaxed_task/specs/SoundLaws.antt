@@ -1,5 +1,5 @@
 -- The facts of a relaxation are all there.
-use Rattle.std.specs.Prelude.{◌≡◌, ℕ, ◌<◌, List, [], ◌∷◌, ◌++◌, Bool, true, false, ◌&&◌, nat_lt, map, filter, slice_index, suc, ◌+◌, length, if◌then◌else◌}
+use Rattle.std.specs.Prelude.{◌≡◌, ℕ, ◌<◌, List, [], ◌∷◌, ◌++◌, Bool, true, false, nat_lt, map, filter, slice_index, suc, ◌+◌, length, if◌then◌else◌}
 use Rattle.std.specs.List.{list_all, enumerate_from, flat_map}
 use Rattle.std.proofs.Common.{arith, refl, ◌∙◌}
 use Rattle.std.proofs.lemmas.Bool.Decides.{nat_tests}
@@ -22,9 +22,7 @@ use Rattle.relaxed_task.specs.Reached.{defaults_of}
 use Rattle.relaxed_task.specs.Relaxations.{IsRelaxed, IsSound}
 use Rattle.relaxed_task.specs.DeadEnds.{all_distinct}
 use Rattle.relaxed_task.specs.Within.{effect_facts, operator_facts, rule_facts, operators_facts, rules_facts}
-
-join : (a b : Bool) → a ≡ true → b ≡ true → (a && b) ≡ true
-join a b e h = rw e h
+use Rattle.relaxed_task.specs.Elements.{join}
 
 fact_below : (variables : List Variable) (fact : Fact) → is_fact variables fact ≡ true → is_below (fact_count variables) (number_of variables fact) ≡ true
 fact_below variables fact is = below (number_of variables fact) (fact_count variables) (number_below variables fact is)

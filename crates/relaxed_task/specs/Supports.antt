@@ -1,5 +1,5 @@
 -- Every fact that costs something finite has a support: what best supporters give one after another has them all.
-use Rattle.std.proofs.Common.{◌≡◌, ◌∙◌, sym, ap, subst, refl, ℕ, zero, suc, ◌<◌, ◌≤◌, min, ◌⊎◌, inl, inr, List, [], ◌∷◌, Bool, true, false, nat_eq, ◌&&◌, arith, if◌then◌else◌, Some, slice_get}
+use Rattle.std.proofs.Common.{◌≡◌, ◌∙◌, sym, ap, subst, refl, ℕ, zero, suc, ◌<◌, ◌≤◌, min, ◌⊎◌, inl, inr, List, [], ◌∷◌, Bool, true, false, nat_eq, arith, if◌then◌else◌, Some, slice_get}
 use Rattle.std.specs.List.{list_all}
 use Rattle.std.proofs.lemmas.Bool.Decides.{nat_tests}
 use Rattle.lama_num.specs.declared.estimates.Estimate.{Estimate}
@@ -11,9 +11,7 @@ use Rattle.relaxed_task.specs.Reached.{is_in_round}
 use Rattle.relaxed_task.specs.Sums.{total, price, cheapest, add_round, IsLeast}
 use Rattle.relaxed_task.specs.AddLaws.{at_most_self, at_most_trans, IsCapped, total_capped, cheapest_capped}
 use Rattle.relaxed_task.specs.AnyOrder.{at_most_both, price_at_most, price_attained, IsClosed}
-
-join : (a b : Bool) → a ≡ true → b ≡ true → (a && b) ≡ true
-join a b e h = rw e h
+use Rattle.relaxed_task.specs.Elements.{join}
 
 -- the costs are the least over the rounds
 abbrev pub AreLeast : List Unary → List ℕ → (ℕ → Estimate) → Type 0

@@ -13,6 +13,7 @@ use Rattle.sas_task.specs.declared.contents.Parts.{Parts}
 use Rattle.sas_task.specs.WellFormed.{IsWellFormed, is_fact, is_effect}
 use Rattle.sas_task.specs.Laws.{init-state, goal-facts, operator-at, effect-tests, rule-at}
 use Rattle.relaxed_task.specs.NumberLaws.{fact_within}
+use Rattle.relaxed_task.specs.Elements.{join}
 
 -- the variable is one of so many
 abbrev pub is_within : ℕ → Fact → Bool
@@ -42,9 +43,6 @@ weaker p q (x ∷ xs) one all =
 pub each_place : {X : Type 0} (q : X → Bool) (xs : List X) → ((i : ℕ) (x : X) → slice_get xs i ≡ Some x → q x ≡ true) → list_all q xs ≡ true
 each_place q [] each = refl
 each_place q (x ∷ xs) each = let here : q x ≡ true = each 0 x refl in rw here (each_place q xs (λ i. each (suc i)))
-
-join : (a b : Bool) → a ≡ true → b ≡ true → (a && b) ≡ true
-join a b e h = rw e h
 
 -- the facts of an effect, an operator and a rule are there
 abbrev pub effect_facts : List Variable → Effect → Bool

@@ -1,5 +1,5 @@
 // The relaxation of a task, and its facts by number.
-ghost use Rattle.std.specs.Prelude.{◌≡◌, ◌≤◌, ◌<◌, List, ℕ, IsTrue, IfOk, false};
+ghost use Rattle.std.specs.Prelude.{◌≡◌, ◌+◌, ◌≤◌, ◌<◌, List, ℕ, IsTrue, IfOk, false, slice_index};
 ghost use Rattle.std.specs.List.{list_all};
 ghost use Rattle.sas_task.specs.WellFormed.{is_fact};
 ghost use Rattle.sas_task.specs.declared.contents.Parts.{Parts as TheParts};
@@ -81,6 +81,16 @@ impl Relaxed {
             IsTrue (is_fact parts.variables fact) → result ≡ number_of parts.variables fact }
     {
         self.lists.offsets[fact.var as usize] + fact.val
+    }
+
+    /// The number that a variable's value has or would have, also where there is no such fact.
+    pub fn number(&self, var: usize, val: u32) -> usize
+        ensures { result ≡ slice_index self.now.offsets var + val }
+    {
+        match self.lists.offsets.get(var) {
+            Some(offset) => *offset as usize + val as usize,
+            None => val as usize,
+        }
     }
 
     /// Where the facts of each variable begin.

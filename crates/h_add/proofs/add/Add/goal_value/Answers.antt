@@ -6,7 +6,7 @@ use Rattle.h_add.proofs.add.Add.goal_value.Goals as goal
 
 pub returns-clause-dead : goal.returns-clause-dead
 returns-clause-dead c parts kind state is evaluated =
-    let costs : c.deref.result.now ≡ c.args.self.now.costs = c.deref.ensures.value ∙ ap (λ (e : Evaluator). e.costs) c.self.view_is in
+    let costs : c.as_slice.result.now ≡ c.args.self.now.costs = c.as_slice.ensures ∙ ap (λ (e : Evaluator). e.costs) c.self.view_is in
     let goals : c.goals.result.now ≡ c.args.self.now.relaxed.goals = c.goals.ensures.goals ∙ ap (λ (e : Evaluator). e.relaxed.goals) c.self.view_is in
     sum_infinite_if_dead parts kind c.args.self.now.relaxed state c.args.self.now.costs c.estimate.result is evaluated
     (c.estimate.ensures ∙ (c.total.ensures ∙ (ap (λ (xs : List ℕ). total_of (value_at xs) c.goals.result.now) costs ∙ ap (λ (xs : List ℕ). total_of (value_at c.args.self.now.costs) xs) goals)))

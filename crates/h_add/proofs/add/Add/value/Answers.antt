@@ -8,10 +8,9 @@ use Rattle.h_add.proofs.add.Add.value.Goals as goal
 
 pub returns : goal.returns
 returns c parts kind state without is evaluated there =
-    let costs : c.deref.result.now ≡ c.args.self.now.costs = c.deref.ensures.value ∙ ap (λ (e : Evaluator). e.costs) c.self.view_is in
-    let offsets : c.offsets.result.now ≡ c.args.self.now.relaxed.offsets = c.offsets.ensures ∙ ap (λ (e : Evaluator). e.relaxed.offsets) c.self.view_is in
-    let number : c.number.result ≡ number_of parts.variables c.args.fact =
-    c.number.ensures ∙ (ap (λ (xs : List ℕ). get_or xs c.args.fact.var 0 + c.args.fact.val) offsets ∙ number_by-is parts.variables c.args.self.now.relaxed.offsets c.args.fact is.offsets there) in
+    let costs : c.as_slice.result.now ≡ c.args.self.now.costs = c.as_slice.ensures ∙ ap (λ (e : Evaluator). e.costs) c.self.view_is in
+    let number : c.number-number.result ≡ number_of parts.variables c.args.fact =
+    c.number-number.ensures ∙ (ap (λ (e : Evaluator). get_or e.relaxed.offsets c.args.fact.var 0 + c.args.fact.val) c.self.view_is ∙ number_by-is parts.variables c.args.self.now.relaxed.offsets c.args.fact is.offsets there) in
     let value : c.value_of.result ≡ value_at c.args.self.now.costs (number_of parts.variables c.args.fact) =
-    c.value_of.ensures ∙ (ap (λ (xs : List ℕ). value_at xs c.number.result) costs ∙ ap (λ (n : ℕ). value_at c.args.self.now.costs n) number) in
+    c.value_of.ensures ∙ (ap (λ (xs : List ℕ). value_at xs c.number-number.result) costs ∙ ap (λ (n : ℕ). value_at c.args.self.now.costs n) number) in
     subst (λ (e : Estimate). IsAdd parts kind state without (number_of parts.variables c.args.fact) e) (sym value) (evaluated (number_of parts.variables c.args.fact))

@@ -26,11 +26,14 @@ returns-clause-answer c task of =
     let evaluated : IsEvaluated c.args.task.now c.args.self.now.kind c.args.state.now [] c.evaluate.new.self.costs =
     c.evaluate.ensures.costs c.args.task.now c.args.self.now.kind (relaxed_as _ _ _ _ own task) of in
     let alive : IsDead c.args.task.now c.args.state.now → ⊥ = λ dead. (let k : true ≡ false = sym ((c.is_dead.ensures.exact c.args.task.now c.args.self.now.kind c.args.state.now is evaluated).1 dead) ∙ c.if-is_dead.false in absurd cc) in
+    let found : AreOperatorsOf (kept c.evaluate.new.self.relaxed.goals (chosen c.evaluate.new.self.relaxed.unaries c.order_best.new.self.order)) c.find.new.self.operators =
+    subst (λ (l : Lists). AreOperatorsOf (kept l.goals (chosen l.unaries c.order_best.new.self.order)) c.find.new.self.operators) c.relaxed.ensures
+    (subst (λ (order : List ℕ). AreOperatorsOf (kept c.relaxed.result.now.goals (chosen c.relaxed.result.now.unaries order)) c.find.new.self.operators) c.order.ensures.order c.find.ensures.operators) in
     has_plan c.args.task.now c.args.self.now.kind c.args.state.now c.evaluate.new.self.costs c.evaluate.new.self.relaxed _ _ _ _ _ is evaluated alive
-    (c.order_best.ensures.order c.args.task.now c.args.self.now.kind is of) c.order_best.ensures.none
-    (subst (λ (l : Lists). AreOperatorsOf (kept l.goals (chosen l.unaries c.order_best.new.queues.order.items)) c.plan_best.new.plan.items) c.relaxed.ensures c.plan_best.ensures.operators)
-    (c.cost.ensures ∙ (ap (λ (ops : List ℕ). cost_of c.args.task.now c.self.inside.kind ops) c.deref-2.ensures.value ∙ ap (λ (k : CostKind). cost_of c.args.task.now k c.plan_best.new.plan.items) kind))
-    (c.preferred_into.ensures.preferred ∙ ap (λ (ops : List ℕ). filter (is_applicable c.args.task.now c.args.state.now) ops) c.deref.ensures.value)
+    (c.order_best.ensures.ordered c.args.task.now c.args.self.now.kind is of) c.order_best.ensures.none
+    (subst (λ (ops : List ℕ). AreOperatorsOf (kept c.evaluate.new.self.relaxed.goals (chosen c.evaluate.new.self.relaxed.unaries c.order_best.new.self.order)) ops) (sym c.prefer.ensures.operators) found)
+    (c.cost.ensures ∙ (ap (λ (ops : List ℕ). cost_of c.args.task.now c.self.inside.kind ops) c.operators.ensures ∙ ap (λ (k : CostKind). cost_of c.args.task.now k c.prefer.new.self.operators) kind))
+    (c.prefer.ensures.preferred ∙ ap (λ (ops : List ℕ). filter (is_applicable c.args.task.now c.args.state.now) ops) (sym c.prefer.ensures.operators))
 
 pub returns-then-is_dead-clause-safe : goal.returns-then-is_dead-clause-safe
 returns-then-is_dead-clause-safe c ops last task formed of infinite leads =
