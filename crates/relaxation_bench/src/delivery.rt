@@ -38,6 +38,16 @@ fn goal(alloc: Global, packages: u32) -> Result<Seq<Fact>, AllocError> {
     Ok(goal)
 }
 
+fn add_operator(
+    alloc: Global,
+    operators: &mut Seq<Operator>,
+    pre: &[Fact],
+    gives: Fact,
+) -> Result<(), AllocError> {
+    let operator = giving(alloc, pre, gives, 1)?;
+    operators.push(operator)
+}
+
 /// The truck moves to the next place, and back.
 fn add_moves(
     alloc: Global,
@@ -46,8 +56,8 @@ fn add_moves(
 ) -> Result<(), AllocError> {
     for here in 0..packages {
         let next = here.saturating_add(1);
-        operators.push(giving(alloc, &[fact(0, here)], fact(0, next), 1)?)?;
-        operators.push(giving(alloc, &[fact(0, next)], fact(0, here), 1)?)?;
+        add_operator(alloc, operators, &[fact(0, here)], fact(0, next))?;
+        add_operator(alloc, operators, &[fact(0, next)], fact(0, here))?;
     }
     Ok(())
 }
@@ -63,8 +73,8 @@ fn add_loads(
         let truck = fact(0, place);
         let there = fact(package, place);
         let inside = fact(package, places);
-        operators.push(giving(alloc, &[truck, there], inside, 1)?)?;
-        operators.push(giving(alloc, &[truck, inside], there, 1)?)?;
+        add_operator(alloc, operators, &[truck, there], inside)?;
+        add_operator(alloc, operators, &[truck, inside], there)?;
     }
     Ok(())
 }

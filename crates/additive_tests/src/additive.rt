@@ -1,10 +1,10 @@
 // Additive costs that were worked by hand.
 use crate::calls::{additive, evaluate, evaluate_without};
-use crate::moves::moves;
 use h_add::Add;
 use lama_num::Estimate;
+use relaxation_tasks::moves;
 use sas_reader::read;
-use sas_task::{CostKind, Fact};
+use sas_task::{CostKind, Fact, check};
 use std::process::Abort;
 use std::test::Fail;
 use test_tasks::{door, fact, free_moves, rivals};
@@ -35,7 +35,7 @@ fn moves_that_cost_nothing(rt: HostRuntime) -> Result<(), Fail> {
 
 #[test]
 fn facts_that_are_left_out(rt: HostRuntime) -> Result<(), Fail> {
-    let task = moves(rt.alloc(), 4, 3, 2)?;
+    let task = check(moves(rt.alloc(), 4, 3, 2)?)?;
     let mut add = additive(rt.alloc(), &task, CostKind::Normal)?;
     evaluate_without(&mut add, &[0], &[fact(0, 1)]);
     expect_value(&rt, &add, fact(0, 0), Estimate::Finite(0));
@@ -49,7 +49,7 @@ fn facts_that_are_left_out(rt: HostRuntime) -> Result<(), Fail> {
 
 #[test]
 fn a_state_from_which_no_operator_goes_on(rt: HostRuntime) -> Result<(), Fail> {
-    let task = moves(rt.alloc(), 4, 3, 2)?;
+    let task = check(moves(rt.alloc(), 4, 3, 2)?)?;
     let mut add = additive(rt.alloc(), &task, CostKind::One)?;
     evaluate(&mut add, &[2]);
     expect_value(&rt, &add, fact(0, 1), Estimate::Infinite);
@@ -62,7 +62,7 @@ fn a_state_from_which_no_operator_goes_on(rt: HostRuntime) -> Result<(), Fail> {
 
 #[test]
 fn costs_that_reach_the_largest(rt: HostRuntime) -> Result<(), Fail> {
-    let task = moves(rt.alloc(), 2_147_483_647, 999_999_999, 2)?;
+    let task = check(moves(rt.alloc(), 2_147_483_647, 999_999_999, 2)?)?;
     let mut add = additive(rt.alloc(), &task, CostKind::PlusOne)?;
     evaluate(&mut add, &[0]);
     expect_value(&rt, &add, fact(0, 1), Estimate::Finite(1_000_000_000));

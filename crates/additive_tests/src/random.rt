@@ -1,11 +1,11 @@
 // The additive costs of random tasks, against plain rounds.
 use crate::calls::{additive, evaluate, evaluate_without};
 use crate::plain_rounds::{UNREACHED, cost_of, plain_rounds, sum_once};
-use crate::random_tasks::{below, random_task, some_facts, state, values_of};
 use h_add::Add;
 use lama_num::Estimate;
 use rand_pcg::Pcg32;
-use sas_task::{CostKind, Fact, Task};
+use relaxation_tasks::{below, random_task, some_facts, state, values_of};
+use sas_task::{CostKind, Fact, Task, check};
 use std::process::Abort;
 use std::test::Fail;
 use test_tasks::fact;
@@ -72,7 +72,7 @@ fn compare_whole(
 /// Compares the costs of a random state of a random task, with and without some facts. Answers
 /// whether the state is dead.
 fn compare(rt: &(impl Abort + AllocGlobal), dice: &mut Pcg32) -> Result<bool, Fail> {
-    let task = random_task(rt.alloc(), dice)?;
+    let task = check(random_task(rt.alloc(), dice)?)?;
     let kind = kind_of(below(dice, 3));
     let state = state(rt.alloc(), dice, 2)?;
     let without = some_facts(rt.alloc(), dice, 3)?;

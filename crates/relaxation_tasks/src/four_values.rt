@@ -1,28 +1,38 @@
 // Tasks of one variable of four values.
 use lama_num::Seq;
-use sas_task::{Operator, Parts, Task, check};
+use sas_task::{Fact, Operator, Parts};
 use std::alloc::{AllocError, Global};
-use std::test::Fail;
 use test_tasks::{fact, facts, giving, variable};
+
+fn add_operator(
+    alloc: Global,
+    operators: &mut Seq<Operator>,
+    from: Fact,
+    to: Fact,
+    cost: u32,
+) -> Result<(), AllocError> {
+    let operator = giving(alloc, &[from], to, cost)?;
+    operators.push(operator)
+}
 
 fn operators(alloc: Global, free: u32, on: u32) -> Result<Seq<Operator>, AllocError> {
     let mut operators = Seq::new(alloc);
-    operators.push(giving(alloc, &[fact(0, 0)], fact(0, 1), free)?)?;
-    operators.push(giving(alloc, &[fact(0, 1)], fact(0, 0), free)?)?;
-    operators.push(giving(alloc, &[fact(0, 1)], fact(0, 2), on)?)?;
-    operators.push(giving(alloc, &[fact(0, 1)], fact(0, 2), on)?)?;
+    add_operator(alloc, &mut operators, fact(0, 0), fact(0, 1), free)?;
+    add_operator(alloc, &mut operators, fact(0, 1), fact(0, 0), free)?;
+    add_operator(alloc, &mut operators, fact(0, 1), fact(0, 2), on)?;
+    add_operator(alloc, &mut operators, fact(0, 1), fact(0, 2), on)?;
     Ok(operators)
 }
 
 /// The variable moves between its first two values at a cost, and on to the third at another, in two
 /// ways. Nothing gives the last.
-pub fn moves(alloc: Global, free: u32, on: u32, goal: u32) -> Result<Task, Fail> {
+pub fn moves(alloc: Global, free: u32, on: u32, goal: u32) -> Result<Parts, AllocError> {
     let mut variables = Seq::new(alloc);
     variables.push(variable(alloc, None, 4)?)?;
     let mut init = Seq::new(alloc);
     init.push(0)?;
     let goal = facts(alloc, &[fact(0, goal)])?;
-    let task = check(Parts {
+    Ok(Parts {
         metric: true,
         variables,
         groups: Seq::new(alloc),
@@ -30,6 +40,5 @@ pub fn moves(alloc: Global, free: u32, on: u32, goal: u32) -> Result<Task, Fail>
         goal,
         operators: operators(alloc, free, on)?,
         rules: Seq::new(alloc),
-    })?;
-    Ok(task)
+    })
 }

@@ -2,11 +2,11 @@
 use lama_num::Seq;
 use rand_core::utils::NextWord;
 use rand_pcg::Pcg32;
-use sas_task::{Effect, Fact, Operator, Parts, Rule, Task, TaskError, Variable, check};
+use sas_task::{Effect, Fact, Operator, Parts, Rule, Variable};
 use std::alloc::{AllocError, Global};
-use std::test::Fail;
 use test_tasks::{effect, fact, operator, rule, variable};
 
+/// A number below an end.
 pub fn below(dice: &mut Pcg32, end: u32) -> u32 {
     dice.next_word() % end.max(1)
 }
@@ -118,13 +118,14 @@ fn rules(alloc: Global, dice: &mut Pcg32) -> Result<Seq<Rule>, AllocError> {
     Ok(rules)
 }
 
-pub fn random_task(alloc: Global, dice: &mut Pcg32) -> Result<Task, Fail> {
+/// The parts of a random task.
+pub fn random_task(alloc: Global, dice: &mut Pcg32) -> Result<Parts, AllocError> {
     let variables = variables(alloc)?;
     let init = Seq::from(state(alloc, dice, 1)?);
     let goal = Seq::from(some_facts(alloc, dice, 4)?);
     let operators = operators(alloc, dice)?;
     let rules = rules(alloc, dice)?;
-    let task = check(Parts {
+    Ok(Parts {
         metric: true,
         variables,
         groups: Seq::new(alloc),
@@ -132,6 +133,5 @@ pub fn random_task(alloc: Global, dice: &mut Pcg32) -> Result<Task, Fail> {
         goal,
         operators,
         rules,
-    })?;
-    Ok(task)
+    })
 }

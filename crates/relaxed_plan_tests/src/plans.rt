@@ -1,9 +1,9 @@
 // Relaxed plans that were worked by hand.
 use crate::calls::{ff, ff_value};
-use crate::moves::moves;
 use lama_num::Estimate;
+use relaxation_tasks::moves;
 use sas_reader::read;
-use sas_task::Task;
+use sas_task::{Task, check};
 use std::process::Abort;
 use std::test::Fail;
 use test_tasks::{door, free_moves, rivals};
@@ -38,26 +38,26 @@ fn goals_that_destroy_each_other(rt: HostRuntime) -> Result<(), Fail> {
 
 #[test]
 fn the_lowest_numbered_of_equal_supporters(rt: HostRuntime) -> Result<(), Fail> {
-    let task = moves(rt.alloc(), 0, 3, 2)?;
+    let task = check(moves(rt.alloc(), 0, 3, 2)?)?;
     expect_ff(&rt, &task, &[0], Estimate::Finite(3), &[0, 2], &[0])?;
     expect_ff(&rt, &task, &[1], Estimate::Finite(3), &[2], &[2])
 }
 
 #[test]
 fn a_goal_that_holds(rt: HostRuntime) -> Result<(), Fail> {
-    let task = moves(rt.alloc(), 0, 3, 2)?;
+    let task = check(moves(rt.alloc(), 0, 3, 2)?)?;
     expect_ff(&rt, &task, &[2], Estimate::Finite(0), &[], &[])
 }
 
 #[test]
 fn a_goal_that_nothing_gives(rt: HostRuntime) -> Result<(), Fail> {
-    let task = moves(rt.alloc(), 0, 3, 3)?;
+    let task = check(moves(rt.alloc(), 0, 3, 3)?)?;
     expect_ff(&rt, &task, &[0], Estimate::Infinite, &[], &[])
 }
 
 #[test]
 fn a_plan_that_costs_more_than_the_largest_estimate(rt: HostRuntime) -> Result<(), Fail> {
-    let task = moves(rt.alloc(), 0, 2_000_000_000, 2)?;
+    let task = check(moves(rt.alloc(), 0, 2_000_000_000, 2)?)?;
     let largest = Estimate::Finite(1_000_000_000);
     expect_ff(&rt, &task, &[0], largest, &[0, 2], &[0])
 }

@@ -1,0 +1,7 @@
+//! Tests of FF: relaxed plans that were worked by hand.
+#![tactic(auto)]
+
+#[cfg(test)]
+mod calls;
+#[cfg(test)]
+mod plans;
