@@ -1,8 +1,8 @@
 -- Counting open conditions.
-use Rattle.std.proofs.Common.{◌≡◌, ◌≢◌, ◌∙◌, sym, ap, subst, refl, ℕ, zero, suc, ◌+◌, ◌-◌, ◌<◌, ◌≤◌, ◌⊎◌, inl, inr, List, [], ◌∷◌, length, get_or, take, Bool, true, false, nat_eq, not, ◌||◌, arith, Some, slice_get, slice_set, get_or-set_other, get_or-set_same}
+use Rattle.std.proofs.Common.{◌≡◌, ◌≢◌, ◌∙◌, sym, ap, subst, refl, ℕ, zero, suc, ◌+◌, ◌-◌, ◌<◌, ◌≤◌, ◌⊎◌, inl, inr, List, [], ◌∷◌, ◌++◌, length, get_or, take, Bool, true, false, nat_eq, not, arith, Some, slice_get, slice_set, get_or-set_other, get_or-set_same, ◌&&◌}
 use Rattle.std.specs.List.{list_all}
+use Rattle.std.proofs.lemmas.Bool.Decides.{nat_tests}
 use Rattle.std.proofs.lemmas.List.{take_more, take_all}
-use Rattle.std.proofs.lemmas.List.Folds.{list_any-append}
 use Rattle.lama_num.specs.declared.estimates.Estimate.{Estimate}
 use Rattle.h_add.specs.Values.{estimate_of, value_at}
 use Rattle.relaxed_task.specs.declared.unary.Unary.{Unary}
@@ -13,29 +13,32 @@ use Rattle.h_add.specs.Queues.{is_waiting, IsWithout, one_if}
 use Rattle.h_add.specs.UnderWay.{is_done, IsUnderWay}
 use Rattle.h_add.specs.Rows.{row_at}
 use Rattle.h_add.specs.Tables.{IsNeeds}
-use Rattle.h_add.specs.Counts.{unseen, IsCounted, IsSeen, is_once, AreOnce, CountsDown, IsNoMoreDone}
-use Rattle.relaxed_task.specs.Elements.{denied, places}
+use Rattle.h_add.specs.Counts.{occurrences, unseen, IsCounted, IsSeen, CountsDown, IsNoMoreDone}
+use Rattle.h_add.specs.Occurrences.{occurrences_last}
+use Rattle.relaxed_task.specs.Elements.{places}
 use Rattle.lama_num.specs.Lists.{both}
 
 one_small : (b : Bool) → one_if b ≤ 1
 one_small true = omega arith
 one_small false = omega arith
 
--- where all were looked at, none is open
-none_unseen : (seen : ℕ → Bool) (conds : List ℕ) → list_all seen conds ≡ true → unseen seen conds ≡ 0
-none_unseen seen [] all = refl
-none_unseen seen (c ∷ conds) all =
-    let parts = both (seen c) (list_all seen conds) all in
-    let rest = none_unseen seen conds parts.1 in
-    let here : one_if (not (seen c)) ≡ 0 = ap (λ (b : Bool). one_if (not b)) parts.0 in
-    omega arith
+-- no condition is open exactly where all were looked at
+none_open : (seen : ℕ → Bool) (conds : List ℕ) → nat_eq (unseen seen conds) 0 ≡ list_all seen conds
+none_open seen [] = refl
+none_open seen (c ∷ conds) = by_test (seen c) refl (none_open seen conds)
+  where
+    some : (n : ℕ) → nat_eq (1 + n) 0 ≡ false
+    some n = grind (arith, nat_tests)
 
-pub met : (unaries : List Unary) (seen : ℕ → Bool) (counts : List ℕ) (i : ℕ) (u : Unary) → IsCounted unaries seen counts → slice_get unaries i ≡ Some u → list_all seen u.conds ≡ true → nat_eq (get_or counts i 0) 0 ≡ true
-met unaries seen counts i u counted at all =
-    let few = counted i u at in
-    let none = none_unseen seen u.conds all in
-    let left : get_or counts i 0 ≡ 0 = omega arith in
-    rw left refl
+    none : (n : ℕ) → nat_eq (0 + n) 0 ≡ nat_eq n 0
+    none n = let z : 0 + n ≡ n = omega arith in ap (λ (k : ℕ). nat_eq k 0) z
+
+    by_test : (b : Bool) → seen c ≡ b → nat_eq (unseen seen conds) 0 ≡ list_all seen conds → nat_eq (one_if (not (seen c)) + unseen seen conds) 0 ≡ (seen c && list_all seen conds)
+    by_test true is rest = rw is (none (unseen seen conds) ∙ rest)
+    by_test false is rest = rw is (some (unseen seen conds))
+
+pub met : (unaries : List Unary) (seen : ℕ → Bool) (counts : List ℕ) (i : ℕ) (u : Unary) → IsCounted unaries seen counts → slice_get unaries i ≡ Some u → nat_eq (get_or counts i 0) 0 ≡ list_all seen u.conds
+met unaries seen counts i u counted at = ap (λ (k : ℕ). nat_eq k 0) (counted i u at) ∙ none_open seen u.conds
 
 -- what is done was looked at
 all_seen : (v : ℕ → Estimate) (p seen : ℕ → Bool) (conds : List ℕ) → IsSeen v p seen → list_all (is_done v p) conds ≡ true → list_all seen conds ≡ true
@@ -64,54 +67,33 @@ skipped unaries start without v p seen i owed is never way = record { first = wa
 abbrev pub seen_in : List Bool → ℕ → Bool
 seen_in flags = is_waiting flags
 
-unseen_other : (flags : List Bool) (fact : ℕ) (conds : List ℕ) → is_among conds fact ≡ false → unseen (seen_in (slice_set flags fact true)) conds ≡ unseen (seen_in flags) conds
-unseen_other flags fact [] other = refl
-unseen_other flags fact (c ∷ conds) other = by_place (places fact c) other (λ rest. unseen_other flags fact conds rest)
+unseen_less : (flags : List Bool) (fact : ℕ) (conds : List ℕ) → fact < length flags → is_waiting flags fact ≡ false → unseen (seen_in flags) conds ≡ unseen (seen_in (slice_set flags fact true)) conds + occurrences fact conds
+unseen_less flags fact [] lt new = refl
+unseen_less flags fact (c ∷ conds) lt new = by_place (places fact c) (unseen_less flags fact conds lt new)
   where
-    by_place : ((fact ≡ c) × (nat_eq fact c ≡ true)) ⊎ ((fact ≢ c) × (nat_eq fact c ≡ false)) → (nat_eq fact c || is_among conds fact) ≡ false →
-        (is_among conds fact ≡ false → unseen (seen_in (slice_set flags fact true)) conds ≡ unseen (seen_in flags) conds) → unseen (seen_in (slice_set flags fact true)) (c ∷ conds) ≡ unseen (seen_in flags) (c ∷ conds)
-    by_place (inl here) among rest = let k : true ≡ false = rw here.1 at among in cc
-    by_place (inr there) among rest =
-        let ne : c ≢ fact = λ e. there.0 (sym e) in
-        let flag : seen_in (slice_set flags fact true) c ≡ seen_in flags c = get_or-set_other flags fact c true false ne in
-        let here : one_if (not (seen_in (slice_set flags fact true) c)) ≡ one_if (not (seen_in flags c)) = ap (λ (b : Bool). one_if (not b)) flag in
-        let more = rest (rw there.1 at among) in
-        omega arith
-
-unseen_one : (flags : List Bool) (fact : ℕ) (conds : List ℕ) → is_once conds ≡ true → unseen (seen_in flags) conds ≤ unseen (seen_in (slice_set flags fact true)) conds + one_if (is_among conds fact)
-unseen_one flags fact [] once = omega arith
-unseen_one flags fact (c ∷ conds) once = by_place (places fact c) (unseen_one flags fact conds parts.1)
-  where
-    parts : (not (is_among conds c) ≡ true) × (is_once conds ≡ true)
-    parts = both (not (is_among conds c)) (is_once conds) once
-
-    by_place : ((fact ≡ c) × (nat_eq fact c ≡ true)) ⊎ ((fact ≢ c) × (nat_eq fact c ≡ false)) → unseen (seen_in flags) conds ≤ unseen (seen_in (slice_set flags fact true)) conds + one_if (is_among conds fact) →
-        unseen (seen_in flags) (c ∷ conds) ≤ unseen (seen_in (slice_set flags fact true)) (c ∷ conds) + one_if (nat_eq fact c || is_among conds fact)
+    by_place : ((fact ≡ c) × (nat_eq fact c ≡ true)) ⊎ ((fact ≢ c) × (nat_eq fact c ≡ false)) → unseen (seen_in flags) conds ≡ unseen (seen_in (slice_set flags fact true)) conds + occurrences fact conds →
+        unseen (seen_in flags) (c ∷ conds) ≡ unseen (seen_in (slice_set flags fact true)) (c ∷ conds) + occurrences fact (c ∷ conds)
     by_place (inl here) rest =
-        let not_later : is_among conds fact ≡ false = ap (is_among conds) here.0 ∙ denied (is_among conds c) parts.0 in
-        let same = unseen_other flags fact conds not_later in
-        let small = one_small (not (seen_in flags c)) in
-        let one : one_if (nat_eq fact c || is_among conds fact) ≡ 1 = rw here.1 refl in
+        let was : one_if (not (seen_in flags c)) ≡ 1 = ap (λ (b : Bool). one_if (not b)) (ap (seen_in flags) (sym here.0) ∙ new) in
+        let now : seen_in (slice_set flags fact true) fact ≡ true = get_or-set_same flags fact true false lt in
+        let is : one_if (not (seen_in (slice_set flags fact true) c)) ≡ 0 = ap (λ (b : Bool). one_if (not b)) (ap (seen_in (slice_set flags fact true)) (sym here.0) ∙ now) in
+        let one : one_if (nat_eq fact c) ≡ 1 = ap one_if here.1 in
         omega arith
     by_place (inr there) rest =
         let ne : c ≢ fact = λ e. there.0 (sym e) in
         let flag : seen_in (slice_set flags fact true) c ≡ seen_in flags c = get_or-set_other flags fact c true false ne in
         let here : one_if (not (seen_in (slice_set flags fact true) c)) ≡ one_if (not (seen_in flags c)) = ap (λ (b : Bool). one_if (not b)) flag in
-        let same : one_if (nat_eq fact c || is_among conds fact) ≡ one_if (is_among conds fact) = rw there.1 refl in
+        let none : one_if (nat_eq fact c) ≡ 0 = ap one_if there.1 in
         omega arith
 
-pub counted_down : (unaries : List Unary) (needs : List (List ℕ)) (flags : List Bool) (fact : ℕ) (old new : List ℕ) → IsNeeds unaries needs → AreOnce unaries → CountsDown (row_at needs fact) old new →
+pub counted_down : (unaries : List Unary) (needs : List (List ℕ)) (flags : List Bool) (fact : ℕ) (old new : List ℕ) → IsNeeds unaries needs → fact < length flags → is_waiting flags fact ≡ false → CountsDown (row_at needs fact) old new →
     IsCounted unaries (seen_in flags) old → IsCounted unaries (seen_in (slice_set flags fact true)) new
-counted_down unaries needs flags fact old new needed once down counted i u at =
-    let few = counted i u at in
+counted_down unaries needs flags fact old new needed lt fresh down counted i u at =
+    let before = counted i u at in
     let less = down i in
-    let one = unseen_one flags fact u.conds (once i u at) in
-    let implied = by_test (is_among u.conds fact) refl in
+    let as_often = needed i u fact at in
+    let one = unseen_less flags fact u.conds lt fresh in
     omega arith
-  where
-    by_test : (b : Bool) → is_among u.conds fact ≡ b → one_if (is_among u.conds fact) ≤ one_if (is_among (row_at needs fact) i)
-    by_test true among = let there = needed i u fact at among in rw (among, there) (omega arith)
-    by_test false among = rw among (omega arith)
 
 -- what is done after a fact is taken out was done, or is that fact
 pub seen_after : (v : ℕ → Estimate) (old new flags : List Bool) (fact : ℕ) → fact < length flags → IsWithout old new fact → IsSeen v (is_waiting old) (seen_in flags) → IsSeen v (is_waiting new) (seen_in (slice_set flags fact true))
@@ -129,29 +111,26 @@ seen_after v old new flags fact lt w is other done = by_place (places other fact
 -- one step of counting down
 pub count_step : (places_of old new now : List ℕ) (k place : ℕ) → k < length places_of → place ≡ get_or places_of k 0 → place < length new → now ≡ slice_set new place (get_or new place 0 - 1) →
     CountsDown (take k places_of) old new → CountsDown (take (k + 1) places_of) old now
-count_step places_of old new now k place lt at within sets down i =
-    rw (sets, take_more places_of k 0 lt, ← at, list_any-append (nat_eq i) (take k places_of) (place ∷ [])) (by_place (places i place))
+count_step places_of old new now k place lt at within sets down i = rw (sets, take_more places_of k 0 lt, ← at) (by_place (places i place))
   where
-    less_or : (a b : Bool) → one_if (a || b) ≤ one_if a + one_if b
-    less_or true true = omega arith
-    less_or true false = omega arith
-    less_or false b = omega arith
+    more : occurrences i (take k places_of ++ place ∷ []) ≡ occurrences i (take k places_of) + one_if (nat_eq i place)
+    more = occurrences_last i (take k places_of) place
 
     by_place : ((i ≡ place) × (nat_eq i place ≡ true)) ⊎ ((i ≢ place) × (nat_eq i place ≡ false)) →
-        get_or (slice_set new place (get_or new place 0 - 1)) i 0 ≤ get_or old i 0 - one_if (is_among (take k places_of) i || (nat_eq i place || false))
+        get_or (slice_set new place (get_or new place 0 - 1)) i 0 ≡ get_or old i 0 - occurrences i (take k places_of ++ place ∷ [])
     by_place (inl here) =
         let now_is : get_or (slice_set new place (get_or new place 0 - 1)) place 0 ≡ get_or new place 0 - 1 = get_or-set_same new place (get_or new place 0 - 1) 0 within in
         let there : get_or (slice_set new place (get_or new place 0 - 1)) i 0 ≡ get_or new i 0 - 1 =
         subst (λ (j : ℕ). get_or (slice_set new place (get_or new place 0 - 1)) j 0 ≡ get_or new j 0 - 1) (sym here.0) now_is in
         let before = down i in
-        let more = less_or (is_among (take k places_of) i) (nat_eq i place || false) in
-        let one = one_small (nat_eq i place || false) in
+        let one : one_if (nat_eq i place) ≡ 1 = ap one_if here.1 in
+        let sum = more in
         omega arith
     by_place (inr there) =
         let kept : get_or (slice_set new place (get_or new place 0 - 1)) i 0 ≡ get_or new i 0 = get_or-set_other new place i (get_or new place 0 - 1) 0 there.0 in
         let before = down i in
-        let more = less_or (is_among (take k places_of) i) (nat_eq i place || false) in
-        let none : one_if (nat_eq i place || false) ≡ 0 = rw there.1 refl in
+        let none : one_if (nat_eq i place) ≡ 0 = ap one_if there.1 in
+        let sum = more in
         omega arith
 
 pub count_none : (old new : List ℕ) → new ≡ old → CountsDown [] old new

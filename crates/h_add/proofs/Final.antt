@@ -1,5 +1,5 @@
 -- One whole evaluation.
-use Rattle.std.proofs.Common.{◌≡◌, ◌∙◌, sym, ap, subst, refl, ℕ, ◌+◌, ◌≤◌, List, [], ◌∷◌, ◌++◌, ◌<◌, nat_lt, length, get_or, map, take, replicate, ◌≢◌, ◌⊎◌, inl, inr, nat_eq, ◌||◌, slice_set, get_or-set_other, get_or-set_same, min, Bool, true, false, not, arith, zero, suc}
+use Rattle.std.proofs.Common.{◌≡◌, ◌∙◌, sym, ap, subst, refl, ℕ, ◌+◌, ◌≤◌, List, [], ◌∷◌, ◌++◌, ◌<◌, nat_lt, length, get_or, map, take, replicate, ◌≢◌, ◌⊎◌, inl, inr, nat_eq, ◌||◌, slice_set, get_or-set_other, get_or-set_same, Bool, true, false, not, arith, zero, suc}
 use Rattle.std.proofs.lemmas.Bool.Decides.{nat_tests}
 use Rattle.std.specs.List.{list_all}
 use Rattle.std.proofs.lemmas.List.{take_more, take_all}
@@ -41,11 +41,9 @@ all_unseen flags (c ∷ conds) none =
     let here : one_if (not (is_out flags c)) ≡ 1 = ap (λ (b : Bool). one_if (not b)) (none c) in
     omega arith
 
-pub counts_start : (unaries : List Unary) (counts : List ℕ) (seen : List Bool) → counts ≡ map (λ u. min (length u.conds) 4294967295) unaries → ((fact : ℕ) → is_out seen fact ≡ false) → IsCounted unaries (is_out seen) counts
+pub counts_start : (unaries : List Unary) (counts : List ℕ) (seen : List Bool) → counts ≡ map (λ u. length u.conds) unaries → ((fact : ℕ) → is_out seen fact ≡ false) → IsCounted unaries (is_out seen) counts
 counts_start unaries counts seen are none i u at =
-    let count : get_or counts i 0 ≡ min (length u.conds) 4294967295 = ap (λ (xs : List ℕ). get_or xs i 0) are ∙ map_at (λ (u : Unary). min (length u.conds) 4294967295) unaries i u 0 at in
-    let all = all_unseen seen u.conds none in
-    omega arith
+    ap (λ (xs : List ℕ). get_or xs i 0) are ∙ (map_at (λ (u : Unary). length u.conds) unaries i u 0 at ∙ sym (all_unseen seen u.conds none))
 
 pub seen_start : (out : List Bool) (facts costs : List ℕ) (waiting : List Bool) (seen : ℕ → Bool) → AreMarked out facts costs waiting → IsSeen (value_at costs) (is_waiting waiting) seen
 seen_start out facts costs waiting seen m fact done = let k : true ≡ false = sym done ∙ m.none_done fact in cc

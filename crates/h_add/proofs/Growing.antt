@@ -1,5 +1,5 @@
 -- Lists that grow by a place.
-use Rattle.std.proofs.Common.{◌≡◌, ◌≢◌, ◌∙◌, sym, ap, refl, ℕ, zero, suc, ◌+◌, ◌<◌, ◌≤◌, ◌⊎◌, inl, inr, List, [], ◌∷◌, ◌++◌, length, get_or, take, replicate, map, Bool, true, false, nat_eq, nat_lt, ◌||◌, arith, Some, slice_get, slice_set, get_or-set_other, get_or-set_same, Result, Ok, Err, IfOk, IsTrue}
+use Rattle.std.proofs.Common.{◌≡◌, ◌≢◌, ◌∙◌, sym, ap, refl, ℕ, zero, suc, ◌+◌, ◌<◌, ◌≤◌, ◌⊎◌, inl, inr, List, [], ◌∷◌, ◌++◌, length, get_or, take, replicate, map, Bool, true, false, nat_eq, nat_lt, ◌||◌, arith, Some, slice_get, slice_set, get_or-set_other, get_or-set_same, Result, Ok, Err, IfOk, IsTrue, if◌then◌else◌}
 use Rattle.std.specs.List.{list_all}
 use Rattle.std.proofs.lemmas.Bool.Decides.{nat_tests}
 use Rattle.std.proofs.lemmas.List.{take_more, length-set}
@@ -10,6 +10,9 @@ use Rattle.lama_num.specs.declared.memory.NoMemory.{NoMemory}
 use Rattle.relaxed_task.specs.declared.unary.Unary.{Unary}
 use Rattle.relaxed_task.specs.Reached.{is_among}
 use Rattle.relaxed_task.specs.Unaries.{is_below, is_unary_below}
+use Rattle.h_add.specs.Counts.{occurrences}
+use Rattle.h_add.specs.Occurrences.{occurrences_last}
+use Rattle.h_add.specs.Queues.{one_if}
 use Rattle.h_add.specs.Rows.{row_at}
 use Rattle.h_add.specs.Listings.{Lists}
 use Rattle.h_add.specs.Tables.{are_within, are_below}
@@ -48,54 +51,62 @@ all_row p [] i all none = none
 all_row p (row ∷ rows) zero all none = (both (p row) (list_all p rows) all).0
 all_row p (row ∷ rows) (suc i) all none = all_row p rows i (both (p row) (list_all p rows) all).1 none
 
--- one list grew
-one_kept : (mid : List (List ℕ)) (fact place f i : ℕ) → fact < length mid → is_among (row_at mid f) i ≡ true → is_among (row_at (slice_set mid fact (row_at mid fact ++ place ∷ [])) f) i ≡ true
-one_kept mid fact place f i lt h = by_place (places f fact)
-  where
-    by_place : ((f ≡ fact) × (nat_eq f fact ≡ true)) ⊎ ((f ≢ fact) × (nat_eq f fact ≡ false)) → is_among (row_at (slice_set mid fact (row_at mid fact ++ place ∷ [])) f) i ≡ true
-    by_place (inl here) =
-        let set_is : row_at (slice_set mid fact (row_at mid fact ++ place ∷ [])) fact ≡ row_at mid fact ++ place ∷ [] = get_or-set_same mid fact (row_at mid fact ++ place ∷ []) [] lt in
-        let was : is_among (row_at mid fact) i ≡ true = ap (λ (k : ℕ). is_among (row_at mid k) i) (sym here.0) ∙ h in
-        ap (λ (k : ℕ). is_among (row_at (slice_set mid fact (row_at mid fact ++ place ∷ [])) k) i) here.0 ∙ (ap (λ (xs : List ℕ). is_among xs i) set_is ∙ among_more (row_at mid fact) i place was)
-    by_place (inr other) =
-        ap (λ (xs : List ℕ). is_among xs i) (get_or-set_other mid fact f (row_at mid fact ++ place ∷ []) [] other.0) ∙ h
-
-one_added : (mid : List (List ℕ)) (fact place : ℕ) → fact < length mid → is_among (row_at (slice_set mid fact (row_at mid fact ++ place ∷ [])) fact) place ≡ true
-one_added mid fact place lt =
-    ap (λ (xs : List ℕ). is_among xs place) (get_or-set_same mid fact (row_at mid fact ++ place ∷ []) [] lt) ∙ among_last (row_at mid fact) place
-
 pub none_added : (old : List (List ℕ)) (place : ℕ) → Lists old old [] place
 none_added old place = record {
   long = refl;
-  kept = λ fact i h. h;
-  added = λ fact h. let k : false ≡ true = h in cc;
+  counts = λ fact i. by_test (nat_eq i place) (occurrences i (row_at old fact));
   within = λ n lt all. all;
 }
+  where
+    by_test : (b : Bool) (n : ℕ) → n ≡ n + (if b then 0 else 0)
+    by_test true n = omega arith
+    by_test false n = omega arith
 
+-- one list grew
 pub fact_added : (old mid new : List (List ℕ)) (facts : List ℕ) (k fact place : ℕ) → k < length facts → fact ≡ get_or facts k 0 → fact < length mid → new ≡ slice_set mid fact (row_at mid fact ++ place ∷ []) →
     Lists old mid (take k facts) place → Lists old new (take (k + 1) facts) place
 fact_added old mid new facts k fact place lt at within is so = record {
   long = ap length is ∙ (length-set mid fact (row_at mid fact ++ place ∷ []) ∙ so.long);
-  kept = λ f i h. rw is (one_kept mid fact place f i within (so.kept f i h));
-  added = λ f h. by_either f (cases (is_among (take k facts) f) (nat_eq f fact) (rw (take_more facts k 0 lt, ← at, list_any-append (nat_eq f) (take k facts) (fact ∷ [])) at h));
+  counts = λ f i. rw (is, take_more facts k 0 lt, ← at) (by_place f i (places f fact));
   within = λ n less all. let mid_all = so.within n less all in rw is (all_set (are_within n) mid fact (row_at mid fact ++ place ∷ []) mid_all (within_more n place (row_at mid fact) (all_row (are_within n) mid fact mid_all refl) less));
 }
   where
-    cases : (a b : Bool) → (a || (b || false)) ≡ true → (a ≡ true) ⊎ (b ≡ true)
-    cases true b h = inl refl
-    cases false true h = inr refl
-    cases false false h = let k : false ≡ true = h in cc
+    one_here : (f i n : ℕ) (b : Bool) → nat_eq i place ≡ b → n ≡ occurrences i (row_at old f) + (if b then occurrences f (take k facts) else 0) → nat_eq f fact ≡ true →
+        n + one_if b ≡ occurrences i (row_at old f) + (if b then occurrences f (take k facts ++ fact ∷ []) else 0)
+    one_here f i n true there before same =
+        let more = occurrences_last f (take k facts) fact in
+        let one : one_if (nat_eq f fact) ≡ 1 = ap one_if same in
+        omega arith
+    one_here f i n false there before same = omega arith
 
-    place_is : (m n : ℕ) → nat_eq m n ≡ true → m ≡ n
-    place_is m n h = grind (arith, nat_tests)
+    none_here : (f i n : ℕ) (b : Bool) → nat_eq i place ≡ b → n ≡ occurrences i (row_at old f) + (if b then occurrences f (take k facts) else 0) → nat_eq f fact ≡ false →
+        n ≡ occurrences i (row_at old f) + (if b then occurrences f (take k facts ++ fact ∷ []) else 0)
+    none_here f i n true there before other =
+        let more = occurrences_last f (take k facts) fact in
+        let none : one_if (nat_eq f fact) ≡ 0 = ap one_if other in
+        omega arith
+    none_here f i n false there before other = before
 
-    by_either : (f : ℕ) → (is_among (take k facts) f ≡ true) ⊎ (nat_eq f fact ≡ true) → is_among (row_at new f) place ≡ true
-    by_either f (inl before) = rw is (one_kept mid fact place f place within (so.added f before))
-    by_either f (inr here) = ap (λ (n : ℕ). is_among (row_at new n) place) (place_is f fact here) ∙ (ap (λ (rows : List (List ℕ)). is_among (row_at rows fact) place) is ∙ one_added mid fact place within)
+    by_place : (f i : ℕ) → ((f ≡ fact) × (nat_eq f fact ≡ true)) ⊎ ((f ≢ fact) × (nat_eq f fact ≡ false)) →
+        occurrences i (row_at (slice_set mid fact (row_at mid fact ++ place ∷ [])) f) ≡ occurrences i (row_at old f) + (if nat_eq i place then occurrences f (take k facts ++ fact ∷ []) else 0)
+    by_place f i (inl here) =
+        let set_is : row_at (slice_set mid fact (row_at mid fact ++ place ∷ [])) fact ≡ row_at mid fact ++ place ∷ [] = get_or-set_same mid fact (row_at mid fact ++ place ∷ []) [] within in
+        let row_is : row_at (slice_set mid fact (row_at mid fact ++ place ∷ [])) f ≡ row_at mid f ++ place ∷ [] =
+        ap (row_at (slice_set mid fact (row_at mid fact ++ place ∷ []))) here.0 ∙ (set_is ∙ ap (λ (n : ℕ). row_at mid n ++ place ∷ []) (sym here.0)) in
+        ap (occurrences i) row_is ∙ (occurrences_last i (row_at mid f) place ∙ one_here f i (occurrences i (row_at mid f)) (nat_eq i place) refl (so.counts f i) here.1)
+    by_place f i (inr other) =
+        ap (occurrences i) (get_or-set_other mid fact f (row_at mid fact ++ place ∷ []) [] other.0) ∙ none_here f i (occurrences i (row_at mid f)) (nat_eq i place) refl (so.counts f i) other.1
 
--- the unary operators so far
-abbrev pub AreNeeded : List Unary → ℕ → List (List ℕ) → Type 0
-AreNeeded unaries k needs = (i : ℕ) (u : Unary) (fact : ℕ) → i < k → slice_get unaries i ≡ Some u → is_among u.conds fact ≡ true → is_among (row_at needs fact) i ≡ true
+-- the unary operators so far, and none of the others
+pub record AreNeeded (unaries : List Unary) (k : ℕ) (needs : List (List ℕ)) : Type 0 where
+  pub those : (i : ℕ) (u : Unary) (fact : ℕ) → i < k → slice_get unaries i ≡ Some u → occurrences i (row_at needs fact) ≡ occurrences fact u.conds
+  pub others : (i fact : ℕ) → k ≤ i → occurrences i (row_at needs fact) ≡ 0
+
+pub none_needed : (unaries : List Unary) (needs : List (List ℕ)) → ((fact : ℕ) → row_at needs fact ≡ []) → AreNeeded unaries 0 needs
+none_needed unaries needs none = record {
+  those = λ i u fact lt at. absurd (omega arith);
+  others = λ i fact le. ap (occurrences i) (none fact);
+}
 
 pub item_is : {X : Type 0} (xs : List X) (i : ℕ) (x y : X) → i < length xs → x ≡ get_or xs i x → slice_get xs i ≡ Some y → y ≡ x
 item_is xs i x y lt read at =
@@ -104,16 +115,26 @@ item_is xs i x y lt read at =
     cc
 
 pub needed_more : (unaries : List Unary) (k : ℕ) (u : Unary) (conds : List ℕ) (old new : List (List ℕ)) → k < length unaries → u ≡ get_or unaries k u → conds ≡ u.conds → Lists old new conds k → AreNeeded unaries k old → AreNeeded unaries (k + 1) new
-needed_more unaries k u conds old new lt read shown grown so i x fact less at among = by_place (places i k)
+needed_more unaries k u conds old new lt read shown grown so = record {
+  those = λ i x fact less at. by_place i x fact less at (places i k);
+  others = λ i fact le. (let was = so.others i fact (omega arith) in
+      let other : nat_eq i k ≡ false = grind (arith, nat_tests) in
+      grown.counts fact i ∙ rw other (omega arith));
+}
   where
-    by_place : ((i ≡ k) × (nat_eq i k ≡ true)) ⊎ ((i ≢ k) × (nat_eq i k ≡ false)) → is_among (row_at new fact) i ≡ true
-    by_place (inl here) =
+    by_place : (i : ℕ) (x : Unary) (fact : ℕ) → i < k + 1 → slice_get unaries i ≡ Some x → ((i ≡ k) × (nat_eq i k ≡ true)) ⊎ ((i ≢ k) × (nat_eq i k ≡ false)) → occurrences i (row_at new fact) ≡ occurrences fact x.conds
+    by_place i x fact less at (inl here) =
         let at_k : slice_get unaries k ≡ Some x = ap (λ (n : ℕ). slice_get unaries n) (sym here.0) ∙ at in
         let same : x ≡ u = item_is unaries k u x lt read at_k in
-        let conds_same : x.conds ≡ conds = ap (λ (y : Unary). y.conds) same ∙ sym shown in
-        let there : is_among conds fact ≡ true = ap (λ (xs : List ℕ). is_among xs fact) (sym conds_same) ∙ among in
-        ap (is_among (row_at new fact)) here.0 ∙ grown.added fact there
-    by_place (inr other) = let ne = other.0 in grown.kept fact i (so i x fact (omega arith) at among)
+        let conds_same : occurrences fact x.conds ≡ occurrences fact conds = ap (λ (y : Unary). occurrences fact y.conds) same ∙ ap (occurrences fact) (sym shown) in
+        let was = so.others i fact (omega arith) in
+        let now : occurrences i (row_at new fact) ≡ occurrences i (row_at old fact) + occurrences fact conds = rw here.1 at (grown.counts fact i) in
+        omega arith
+    by_place i x fact less at (inr other) =
+        let ne = other.0 in
+        let was = so.those i x fact (omega arith) at in
+        let now : occurrences i (row_at new fact) ≡ occurrences i (row_at old fact) + 0 = rw other.1 at (grown.counts fact i) in
+        omega arith
 
 -- those without conditions, so far
 abbrev pub AreFreeBelow : List Unary → ℕ → List ℕ → Type 0
@@ -135,6 +156,12 @@ free_same unaries k u free lt read some so i x less at none = by_place (places i
         let same : x ≡ u = item_is unaries k u x lt read at_k in
         absurd (some (ap (λ (y : Unary). y.conds) (sym same) ∙ none))
     by_place (inr other) = let ne = other.0 in so i x (omega arith) at none
+
+-- no lists
+pub none_there : (facts fact : ℕ) → row_at (replicate facts []) fact ≡ []
+none_there zero fact = refl
+none_there (suc facts) zero = refl
+none_there (suc facts) (suc fact) = none_there facts fact
 
 pub none_within : (n facts : ℕ) → list_all (are_within n) (replicate facts []) ≡ true
 none_within n zero = refl
@@ -161,8 +188,8 @@ conds_at n [] i u conds all lt at shown = absurd (omega arith)
 conds_at n (x ∷ unaries) zero u conds all lt at shown = rw (shown, at) (both (list_all (is_below n) x.conds) (is_below n x.gives) (both (is_unary_below n x) (list_all (is_unary_below n) unaries) all).0).0
 conds_at n (x ∷ unaries) (suc i) u conds all lt at shown = conds_at n unaries i u conds (both (is_unary_below n x) (list_all (is_unary_below n) unaries) all).1 (omega arith) at shown
 
-pub all_needed : (unaries : List Unary) (k : ℕ) (needs : List (List ℕ)) → length unaries ≤ k → AreNeeded unaries k needs → (i : ℕ) (u : Unary) (fact : ℕ) → slice_get unaries i ≡ Some u → is_among u.conds fact ≡ true → is_among (row_at needs fact) i ≡ true
-all_needed unaries k needs le so i u fact at among = let lt = slice_get_within unaries i u at in so i u fact (omega arith) at among
+pub all_needed : (unaries : List Unary) (k : ℕ) (needs : List (List ℕ)) → length unaries ≤ k → AreNeeded unaries k needs → (i : ℕ) (u : Unary) (fact : ℕ) → slice_get unaries i ≡ Some u → occurrences i (row_at needs fact) ≡ occurrences fact u.conds
+all_needed unaries k needs le so i u fact at = let lt = slice_get_within unaries i u at in so.those i u fact (omega arith) at
 
 pub all_free : (unaries : List Unary) (k : ℕ) (free : List ℕ) → length unaries ≤ k → AreFreeBelow unaries k free → (i : ℕ) (u : Unary) → slice_get unaries i ≡ Some u → u.conds ≡ [] → is_among free i ≡ true
 all_free unaries k free le so i u at none = let lt = slice_get_within unaries i u at in so i u (omega arith) at none

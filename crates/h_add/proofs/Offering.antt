@@ -1,5 +1,5 @@
 -- One offer, one fact looked at, and the end.
-use Rattle.std.proofs.Common.{◌≡◌, ◌≢◌, ◌∙◌, sym, ap, subst, refl, ℕ, ◌+◌, ◌<◌, ◌≤◌, ◌⊎◌, inl, inr, List, [], ◌∷◌, length, get_or, drop, Bool, true, false, nat_eq, not, ◌&&◌, ◌||◌, arith, Option, Some, None, nat_lt, slice_get, slice_set, get_or-set_other, get_or-set_same}
+use Rattle.std.proofs.Common.{◌≡◌, ◌≢◌, ◌∙◌, sym, ap, subst, refl, ℕ, ◌+◌, ◌<◌, ◌≤◌, ◌⊎◌, inl, inr, List, [], ◌∷◌, length, get_or, drop, Bool, true, false, nat_eq, not, ◌&&◌, ◌||◌, arith, Some, nat_lt, slice_get, slice_set, get_or-set_other, get_or-set_same}
 use Rattle.std.specs.List.{list_all}
 use Rattle.std.proofs.lemmas.Bool.Decides.{nat_tests}
 use Rattle.std.proofs.lemmas.List.{drop_all, get_or_default}
@@ -13,7 +13,7 @@ use Rattle.relaxed_task.specs.Sums.{total, price, add_round, IsLeast}
 use Rattle.relaxed_task.specs.AddLaws.{at_most_self, at_most_trans, at_most_infinite, infinite_where_not, finite_price}
 use Rattle.relaxed_task.specs.AnyOrder.{price_attained, any_order}
 use Rattle.h_add.specs.Values.{estimate_of, value_at}
-use Rattle.h_add.specs.Queues.{is_waiting, IsWithout, IsPopped}
+use Rattle.h_add.specs.Queues.{is_waiting, IsWithout}
 use Rattle.h_add.specs.UnderWay.{is_done, Owes, IsUnderWay, is_out, IsOut}
 use Rattle.h_add.specs.Rows.{row_at}
 use Rattle.h_add.specs.Tables.{IsNeeds}
@@ -22,6 +22,7 @@ use Rattle.h_add.proofs.Measures.{kept_order}
 use Rattle.relaxed_task.specs.Elements.{denied, drop_within, join, places}
 use Rattle.lama_num.specs.Lists.{both}
 use Rattle.h_add.specs.Laws.{UnaryAt}
+use Rattle.h_add.specs.Occurrences.{needed_there}
 
 -- one fact became cheaper, and waits
 record Lowers (v w : ℕ → Estimate) (p q : ℕ → Bool) (fact : ℕ) (cost : Estimate) : Type 0 where
@@ -141,7 +142,7 @@ takes_out unaries start without needs v old new fact needed removed is = record 
 
     by_test : (i : ℕ) (u : Unary) → slice_get unaries i ≡ Some u → is_among without u.gives ≡ false → list_all (is_done v (is_waiting new)) u.conds ≡ true → (b : Bool) → is_among u.conds fact ≡ b →
         IsAtMost (v u.gives) (price v u) ⊎ (is_among (row_at needs fact) i ≡ true)
-    by_test i u at stays done true among = inr (needed i u fact at among)
+    by_test i u at stays done true among = inr (needed_there (row_at needs fact) u.conds i fact (needed i u fact at) among)
     by_test i u at stays done false among = by_case i u (is.owes i u at stays (without_same v old new fact u.conds removed.is among done))
 
 -- where nothing is pending or owed, the costs are the least over the rounds

@@ -1,56 +1,20 @@
 -- Laws of unary operators and of evaluated states, for those who build on the estimate.
-use Rattle.std.specs.Prelude.{◌≡◌, ℕ, zero, suc, ◌+◌, List, Option, Some, None, slice_get, [], ◌∷◌, ◌++◌, map, Bool, true, false, not, ◌&&◌, ◌||◌, ◌↔◌}
-use Rattle.std.specs.List.{list_all, list_any, enumerate_from, flat_map}
+use Rattle.std.specs.Prelude.{◌≡◌, ℕ, zero, suc, List, Option, Some, None, slice_get, [], ◌∷◌, map, Bool, true, false, not, ◌&&◌, ◌||◌, ◌↔◌}
+use Rattle.std.specs.List.{list_all, list_any}
 use Rattle.std.proofs.Common.{refl, sym, ap, ◌∙◌}
-use Rattle.std.proofs.lemmas.List.Folds.{list_all-append}
-use Rattle.lama_num.specs.Lists.{list_all_get}
 use Rattle.lama_num.specs.Estimates.{estimate_sum}
 use Rattle.lama_num.specs.declared.estimates.Estimate.{Estimate}
 use Rattle.lama_num.specs.declared.estimates.Estimate.TheVariants.{Finite, Infinite}
 use Rattle.sas_task.specs.declared.contents.CostKind.{CostKind}
-use Rattle.sas_task.specs.declared.contents.Effect.{Effect}
-use Rattle.sas_task.specs.declared.contents.Operator.{Operator}
 use Rattle.sas_task.specs.declared.contents.Parts.{Parts}
-use Rattle.sas_task.specs.declared.contents.Rule.{Rule}
 use Rattle.relaxed_task.specs.DeadLaws.{dead_where_infinite, infinite_where_dead}
 use Rattle.relaxed_task.specs.declared.relaxation.Lists.{Lists}
 use Rattle.relaxed_task.specs.declared.unary.Unary.{Unary}
 use Rattle.relaxed_task.specs.Estimates.{is_finite}
-use Rattle.relaxed_task.specs.Numbers.{numbers_of}
 use Rattle.relaxed_task.specs.Reached.{IsDead}
 use Rattle.relaxed_task.specs.Relaxations.{IsRelaxed}
 use Rattle.relaxed_task.specs.Sums.{total}
-use Rattle.relaxed_task.specs.Unaries.{unaries_of, unary_of_effect, unary_of_rule, unaries_of_operator}
-use Rattle.h_add.specs.Counts.{AreOnce, is_once}
-use Rattle.h_add.specs.Onces.{distinct_once}
 use Rattle.h_add.specs.Values.{value_at, IsEvaluated}
-
--- the conditions of each unary operator of a task are distinct
-effects_once : (parts : Parts) (kind : CostKind) (op : ℕ) (operator : Operator) (effects : List Effect) → list_all (λ u. is_once u.conds) (map (unary_of_effect parts kind op operator) effects) ≡ true
-effects_once parts kind op operator [] = refl
-effects_once parts kind op operator (e ∷ effects) =
-    let here = distinct_once (numbers_of parts.variables (operator.pre ++ e.conds)) in
-    rw here (effects_once parts kind op operator effects)
-
-rules_once : (parts : Parts) (rules : List Rule) → list_all (λ u. is_once u.conds) (map (unary_of_rule parts) rules) ≡ true
-rules_once parts [] = refl
-rules_once parts (r ∷ rules) =
-    let here = distinct_once (numbers_of parts.variables r.conds) in
-    rw here (rules_once parts rules)
-
-operators_once : (parts : Parts) (kind : CostKind) (k : ℕ) (operators : List Operator) → list_all (λ u. is_once u.conds) (flat_map (λ p. unaries_of_operator parts kind p.0 p.1) (enumerate_from k operators)) ≡ true
-operators_once parts kind k [] = refl
-operators_once parts kind k (o ∷ operators) =
-    let joined = list_all-append (λ (u : Unary). is_once u.conds) (unaries_of_operator parts kind k o) (flat_map (λ p. unaries_of_operator parts kind p.0 p.1) (enumerate_from (k + 1) operators)) in
-    let here = effects_once parts kind k o o.effects in
-    let rest = operators_once parts kind (k + 1) operators in
-    joined ∙ rw (here, rest) refl
-
-pub unaries_once : (parts : Parts) (kind : CostKind) (relaxed : Lists) → IsRelaxed parts kind relaxed → AreOnce relaxed.unaries
-unaries_once parts kind relaxed is i u at =
-    let joined = list_all-append (λ (u : Unary). is_once u.conds) (flat_map (λ p. unaries_of_operator parts kind p.0 p.1) (enumerate_from 0 parts.operators)) (map (unary_of_rule parts) parts.rules) in
-    let all : list_all (λ u. is_once u.conds) (unaries_of parts kind) ≡ true = joined ∙ rw (operators_once parts kind 0 parts.operators, rules_once parts parts.rules) refl in
-    list_all_get (λ (u : Unary). is_once u.conds) relaxed.unaries i u (rw is.unaries all) at
 
 -- some goal fact is infinite exactly where the state is dead
 pub infinite_if_dead : (parts : Parts) (kind : CostKind) (relaxed : Lists) (state costs : List ℕ) → IsRelaxed parts kind relaxed → IsEvaluated parts kind state [] costs →

@@ -3,7 +3,7 @@ pub mod Counts
 pub mod Laws
 pub mod Listings
 pub mod Marks
-pub mod Onces
+pub mod Occurrences
 pub mod Queues
 pub mod Ready
 pub mod Rows

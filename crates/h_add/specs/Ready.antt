@@ -3,7 +3,6 @@ use Rattle.std.specs.Prelude.{◌≡◌, ℕ, ◌≤◌, length, false}
 use Rattle.relaxed_task.specs.declared.relaxation.Lists.{Lists}
 use Rattle.h_add.specs.declared.tables.Tables.{Tables}
 use Rattle.h_add.specs.Costings.{Costing, Counting}
-use Rattle.h_add.specs.Counts.{AreOnce}
 use Rattle.h_add.specs.Tables.{AreTablesOf, AreSound}
 use Rattle.h_add.specs.UnderWay.{is_out}
 
@@ -12,7 +11,6 @@ pub record IsReady (relaxed : Lists) (tables : Tables) (costs : Costing) (condit
   pub few : relaxed.facts ≤ 4194304
   pub tables_are : AreTablesOf relaxed.unaries tables
   pub sound : AreSound tables relaxed.facts
-  pub once : AreOnce relaxed.unaries
   pub costs_long : length costs.costs ≡ relaxed.facts
   pub seen_long : length conditions.seen ≡ relaxed.facts
   pub counts_long : length conditions.counts ≡ length tables.gives

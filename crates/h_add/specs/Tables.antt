@@ -1,10 +1,11 @@
 -- The unary operators in flat tables.
-use Rattle.std.specs.Prelude.{◌≡◌, ℕ, List, [], length, map, min, Bool, true, nat_lt, IsTrue, slice_get, Some}
+use Rattle.std.specs.Prelude.{◌≡◌, ℕ, List, [], length, map, Bool, true, nat_lt, IsTrue, slice_get, Some}
 use Rattle.std.specs.List.{list_all}
 use Rattle.relaxed_task.specs.declared.unary.Unary.{Unary}
 use Rattle.relaxed_task.specs.Reached.{is_among}
 use Rattle.relaxed_task.specs.Unaries.{is_below}
 use Rattle.h_add.specs.declared.tables.Tables.{Tables}
+use Rattle.h_add.specs.Counts.{occurrences}
 use Rattle.h_add.specs.Rows.{row_at}
 
 -- places of a list that is so long
@@ -14,9 +15,9 @@ are_within n places = list_all (λ i. nat_lt i n) places
 abbrev pub are_below : ℕ → List ℕ → Bool
 are_below n facts = list_all (is_below n) facts
 
--- each fact has a row with the unary operators that have it among their conditions
+-- a unary operator stands in the row of a fact as often as the fact among its conditions
 abbrev pub IsNeeds : List Unary → List (List ℕ) → Type 0
-IsNeeds unaries needs = (i : ℕ) (u : Unary) (fact : ℕ) → slice_get unaries i ≡ Some u → is_among u.conds fact ≡ true → is_among (row_at needs fact) i ≡ true
+IsNeeds unaries needs = (i : ℕ) (u : Unary) (fact : ℕ) → slice_get unaries i ≡ Some u → occurrences i (row_at needs fact) ≡ occurrences fact u.conds
 
 -- those that have no conditions
 abbrev pub AreFree : List Unary → List ℕ → Type 0
@@ -27,7 +28,7 @@ pub record AreTablesOf (unaries : List Unary) (tables : Tables) : Type 0 where
   pub gives : tables.gives ≡ map (λ u. u.gives) unaries
   pub costs : tables.costs ≡ map (λ u. u.cost) unaries
   pub conds : tables.conds ≡ map (λ u. u.conds) unaries
-  pub counts : tables.counts ≡ map (λ u. min (length u.conds) 4294967295) unaries
+  pub counts : tables.counts ≡ map (λ u. length u.conds) unaries
   pub needs : IsNeeds unaries tables.needs
   pub free : AreFree unaries tables.free
 

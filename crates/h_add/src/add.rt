@@ -10,7 +10,6 @@ ghost use Rattle.relaxed_task.specs.Numbers.{number_of, numbers_of};
 ghost use Rattle.relaxed_task.specs.Reached.{IsDead};
 ghost use Rattle.relaxed_task.specs.Relaxations.{IsRelaxed};
 ghost use Rattle.relaxed_task.specs.Sums.{IsAdd, IsGoalValue};
-ghost use Rattle.h_add.specs.Counts.{AreOnce};
 ghost use Rattle.h_add.specs.Tables.{AreTablesOf, AreSound};
 ghost use Rattle.h_add.specs.Values.{value_at, IsEvaluated};
 
@@ -50,7 +49,6 @@ impl Model for Add {
 
 /// The evaluator over a relaxation.
 fn evaluator(alloc: Global, relaxed: Relaxed) -> Result<Add, NoMemory>
-    requires { AreOnce relaxed.unaries }
     ensures { IfOk result (λ add. add.relaxed ≡ relaxed) }
 {
     let facts = relaxed.facts() as usize;

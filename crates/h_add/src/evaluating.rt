@@ -8,7 +8,6 @@ ghost use Rattle.sas_task.specs.WellFormed.{is_fact};
 ghost use Rattle.relaxed_task.specs.Estimates.{is_finite};
 ghost use Rattle.relaxed_task.specs.Numbers.{numbers_by, number_by, numbers_of};
 ghost use Rattle.relaxed_task.specs.Relaxations.{IsRelaxed};
-ghost use Rattle.h_add.specs.Counts.{AreOnce};
 ghost use Rattle.h_add.specs.Marks.{AreMarked};
 ghost use Rattle.h_add.specs.Tables.{AreTablesOf, AreSound, are_below};
 ghost use Rattle.h_add.specs.UnderWay.{IsOut, is_out};
@@ -72,7 +71,7 @@ impl Costs {
         requires sound { AreSound tables.now relaxed.now.facts }
         requires seen { length conditions.old.seen ≡ relaxed.now.facts }
         requires counts { length conditions.old.counts ≡ length tables.now.gives }
-        ensures evaluated { (parts : Parts) (kind : CostKind) (without : List ℕ) → AreTablesOf relaxed.now.unaries tables.now → AreOnce relaxed.now.unaries →
+        ensures evaluated { (parts : Parts) (kind : CostKind) (without : List ℕ) → AreTablesOf relaxed.now.unaries tables.now →
             IsRelaxed parts kind relaxed.now → IsState parts.variables state.now → IsOut without self.old.out → IsEvaluated parts kind state.now without self.new.costs }
         ensures out { self.new.out ≡ self.old.out }
         ensures costs { length self.new.costs ≡ length self.old.costs }
@@ -110,7 +109,7 @@ impl Costs {
         requires none_out { (fact : ℕ) → is_out self.old.out fact ≡ false }
         requires seen { length conditions.old.seen ≡ relaxed.now.facts }
         requires counts { length conditions.old.counts ≡ length tables.now.gives }
-        ensures evaluated { (parts : Parts) (kind : CostKind) → AreTablesOf relaxed.now.unaries tables.now → AreOnce relaxed.now.unaries →
+        ensures evaluated { (parts : Parts) (kind : CostKind) → AreTablesOf relaxed.now.unaries tables.now →
             IsRelaxed parts kind relaxed.now → IsState parts.variables state.now → IsTrue (list_all (is_fact parts.variables) excluded.now) →
             IsEvaluated parts kind state.now (numbers_of parts.variables excluded.now) self.new.costs }
         ensures none_out { (fact : ℕ) → is_out self.new.out fact ≡ false }

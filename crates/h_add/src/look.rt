@@ -2,7 +2,7 @@
 ghost use Rattle.std.specs.Prelude.{◌≡◌, ℕ, List, length, false};
 ghost use Rattle.relaxed_task.specs.declared.unary.Unary.{Unary};
 ghost use Rattle.relaxed_task.specs.Sums.{add_round, IsLeast};
-ghost use Rattle.h_add.specs.Counts.{AreOnce, IsLooking};
+ghost use Rattle.h_add.specs.Counts.{IsLooking};
 ghost use Rattle.h_add.specs.Queues.{is_waiting};
 ghost use Rattle.h_add.specs.Values.{value_at};
 ghost use Rattle.h_add.specs.Tables.{AreTablesOf, AreSound};
@@ -18,7 +18,7 @@ impl Costs {
         requires sound { AreSound tables.now (length self.old.costs) }
         requires seen { length conditions.old.seen ≡ length self.old.costs }
         requires counts { length conditions.old.counts ≡ length tables.now.gives }
-        ensures least { (unaries : List Unary) (start without : List ℕ) → AreTablesOf unaries tables.now → AreOnce unaries → IsOut without self.old.out →
+        ensures least { (unaries : List Unary) (start without : List ℕ) → AreTablesOf unaries tables.now → IsOut without self.old.out →
             IsLooking unaries start without self.old.costs self.old.waiting conditions.old.seen conditions.old.counts →
             (fact : ℕ) → IsLeast (λ n. add_round unaries start without n fact) (value_at self.new.costs fact) }
         ensures none_waits { (fact : ℕ) → is_waiting self.new.waiting fact ≡ false }

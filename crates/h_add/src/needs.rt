@@ -47,7 +47,7 @@ fn no_lists(alloc: Global, facts: usize) -> Result<Vec<Seq<u32>>, AllocError>
 fn add_each(lists: &mut [Seq<u32>], unaries: &[Unary]) -> Result<(), AllocError>
     requires few { length unaries.now < 2 ^ 32 }
     requires facts { IsTrue (list_all (is_unary_below (length lists.old)) unaries.now) }
-    ensures needs { OnOk result (IsNeeds unaries.now lists.new) }
+    ensures needs { OnOk result (((fact : ℕ) → row_at lists.old fact ≡ []) → IsNeeds unaries.now lists.new) }
     ensures within { OnOk result (list_all (are_within (length unaries.now)) lists.old ≡ true → list_all (are_within (length unaries.now)) lists.new ≡ true) }
     ensures long { length lists.new ≡ length lists.old }
 {

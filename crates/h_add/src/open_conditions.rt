@@ -2,7 +2,7 @@
 ghost use Rattle.std.specs.Prelude.{◌≡◌, ◌<◌, ℕ, List, length, IsTrue, IfOk, true, false, nat_eq, slice_get, slice_index, slice_set, Some};
 ghost use Rattle.std.specs.List.{list_all};
 ghost use Rattle.relaxed_task.specs.declared.unary.Unary.{Unary};
-ghost use Rattle.h_add.specs.Counts.{AreOnce, CountsDown, IsCounted};
+ghost use Rattle.h_add.specs.Counts.{CountsDown, IsCounted};
 ghost use Rattle.h_add.specs.Tables.{AreTablesOf, AreSound, IsNeeds, are_within};
 ghost use Rattle.h_add.specs.UnderWay.{is_out};
 
@@ -59,13 +59,13 @@ fn open_all(tables: &Tables, counts: &mut [u32], seen: &mut [bool])
     unset(seen);
 }
 
-/// Counts a fact down where it is new.
+/// Looks at a fact: where it is new, those that have it as a condition have one open one less.
 fn look_at(needs: &Rows, fact: usize, counts: &mut [u32], seen: &mut [bool])
     requires fact { fact < length seen.old }
     requires needs { length needs.now ≡ length seen.old }
     requires within { IsTrue (list_all (are_within (length counts.old)) needs.now) }
     ensures seen { seen.new ≡ slice_set seen.old fact true }
-    ensures counted { (unaries : List Unary) → IsNeeds unaries needs.now → AreOnce unaries →
+    ensures counted { (unaries : List Unary) → IsNeeds unaries needs.now →
         IsCounted unaries (is_out seen.old) counts.old → IsCounted unaries (is_out seen.new) counts.new }
 {
     if !seen[fact] {
@@ -115,7 +115,7 @@ impl OpenConditions {
         requires sound { AreSound tables.now (length self.old.seen) }
         requires counts { length self.old.counts ≡ length tables.now.gives }
         ensures seen { self.new.seen ≡ slice_set self.old.seen fact true }
-        ensures counted { (unaries : List Unary) → AreTablesOf unaries tables.now → AreOnce unaries →
+        ensures counted { (unaries : List Unary) → AreTablesOf unaries tables.now →
             IsCounted unaries (is_out self.old.seen) self.old.counts → IsCounted unaries (is_out self.new.seen) self.new.counts }
         ensures counts { length self.new.counts ≡ length self.old.counts }
     {
@@ -126,7 +126,7 @@ impl OpenConditions {
     pub fn is_met(&self, place: usize) -> bool
         requires { place < length self.now.counts }
         ensures { (unaries : List Unary) (u : Unary) → IsCounted unaries (is_out self.now.seen) self.now.counts → slice_get unaries place ≡ Some u →
-            list_all (is_out self.now.seen) u.conds ≡ true → result ≡ true }
+            result ≡ list_all (is_out self.now.seen) u.conds }
     {
         is_zero(&self.counts, place)
     }

@@ -38,19 +38,26 @@ fn costs_of(alloc: Global, unaries: &[Unary]) -> Result<Vec<u32>, AllocError>
     unaries.iter().map(|unary| unary.cost).collect(alloc)
 }
 
-fn count_of(conds: &[u32]) -> u32
-    ensures { result ≡ min (length conds.now) 4294967295 }
+/// How many conditions there are. They are counted with 32 bits: where there are more, there is no
+/// memory for them.
+fn count_of(conds: &[u32]) -> Result<u32, NoMemory>
+    ensures { IfOk result (λ count. count ≡ length conds.now) }
 {
-    conds.len().min(4_294_967_295) as u32
+    if conds.len() >= 4_294_967_296 {
+        return Err(NoMemory);
+    }
+    Ok(conds.len() as u32)
 }
 
-fn counts_of(alloc: Global, unaries: &[Unary]) -> Result<Vec<u32>, AllocError>
-    ensures { IfOk result (λ v. v.items ≡ map (λ u. min (length u.conds) 4294967295) unaries.now) }
+fn counts_of(alloc: Global, unaries: &[Unary]) -> Result<Vec<u32>, NoMemory>
+    ensures { IfOk result (λ v. v.items ≡ map (λ u. length u.conds) unaries.now) }
 {
-    unaries
-        .iter()
-        .map(|unary| count_of(&unary.conds))
-        .collect(alloc)
+    let mut counts = Vec::with_capacity(alloc, unaries.len())?;
+    for unary in unaries {
+        let count = count_of(&unary.conds)?;
+        counts.push(count)?;
+    }
+    Ok(counts)
 }
 
 fn conds_of(alloc: Global, unaries: &[Unary]) -> Result<Rows, NoMemory>

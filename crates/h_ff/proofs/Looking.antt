@@ -8,6 +8,7 @@ use Rattle.relaxed_task.specs.declared.unary.Unary.{Unary}
 use Rattle.relaxed_task.specs.Reached.{is_among}
 use Rattle.h_ff.specs.Best.{is_given, is_best, is_fit, is_ready}
 use Rattle.h_ff.specs.Orders.{IsOrder}
+use Rattle.h_add.specs.Occurrences.{needed_there}
 use Rattle.h_add.specs.Tables.{IsNeeds}
 use Rattle.h_ff.specs.Passes.{Supports, IsPass, Owes, AreGiven, Extends}
 use Rattle.h_ff.proofs.Grows.{grows}
@@ -175,7 +176,7 @@ owes_row unaries needs costs queued seen now fact row needed at same owes i u at
     by_case (inr never) = let k : false ≡ true = never in cc
 
     by_test : (b : Bool) → is_among u.conds fact ≡ b → (is_given queued u.gives ≡ true) ⊎ (is_among row i ≡ true)
-    by_test true among = inr (ap (λ (xs : List ℕ). is_among xs i) at ∙ needed i u fact at_i among)
+    by_test true among = inr (ap (λ (xs : List ℕ). is_among xs i) at ∙ needed_there (slice_index_or needs fact []) u.conds i fact (needed i u fact at_i) among)
     by_test false among = by_case (owes i u at_i (seen_before seen now fact u.conds same among done) best)
 
 -- the flags but for one

@@ -1,5 +1,5 @@
 -- The beginning of an order.
-use Rattle.std.proofs.Common.{◌≡◌, ◌∙◌, sym, ap, subst, refl, ℕ, ◌≤◌, inr, List, [], ◌∷◌, ◌++◌, length, Bool, true, false, nat_eq, ◌||◌, arith}
+use Rattle.std.proofs.Common.{◌≡◌, ◌∙◌, sym, ap, subst, refl, ℕ, inr, List, [], ◌∷◌, ◌++◌, Bool, true, false, nat_eq, ◌||◌}
 use Rattle.std.specs.List.{list_all}
 use Rattle.std.proofs.lemmas.List.{append-nil}
 use Rattle.std.proofs.lemmas.List.Folds.{list_any-append}
@@ -16,8 +16,7 @@ use Rattle.relaxed_task.specs.Relaxations.{IsRelaxed}
 use Rattle.relaxed_task.specs.Unaries.{is_below}
 use Rattle.lama_num.specs.Lists.{both}
 use Rattle.h_add.specs.Tables.{AreFree}
-use Rattle.h_add.specs.Values.{value_at}
-use Rattle.h_ff.specs.Best.{is_given, clear_flags}
+use Rattle.h_ff.specs.Best.{is_given}
 use Rattle.h_ff.specs.Orders.{IsOrder}
 use Rattle.h_ff.specs.Passes.{Passing, IsBegun, IsPass, Owes, AreGiven}
 

@@ -3,7 +3,6 @@ use Rattle.std.specs.Prelude.{◌≡◌, ℕ, List, length}
 use Rattle.sas_task.specs.declared.contents.CostKind.{CostKind}
 use Rattle.relaxed_task.specs.declared.relaxation.Lists.{Lists}
 use Rattle.h_add.specs.Costings.{Counting}
-use Rattle.h_add.specs.Counts.{AreOnce}
 use Rattle.h_ff.specs.Passes.{Passing}
 use Rattle.h_ff.specs.RelaxedPlans.{Planned}
 
@@ -14,9 +13,8 @@ pub record Planner : Type 0 where
   pub plan : List ℕ
   pub preferred : List ℕ
 
--- all for the facts and unary operators of one relaxation, and no unary operator has a condition twice
+-- all for the facts and unary operators of one relaxation
 pub record IsKept (relaxed : Lists) (conditions : Counting) (pass : Passing) (plan : Planned) : Type 0 where
-  pub once : AreOnce relaxed.unaries
   pub seen : length conditions.seen ≡ relaxed.facts
   pub counts : length conditions.counts ≡ length relaxed.unaries
   pub pass_long : length pass.queued ≡ relaxed.facts

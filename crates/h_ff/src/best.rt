@@ -11,7 +11,7 @@ use lama_num::LARGEST_ESTIMATE;
 
 /// Whether a unary operator gives its fact for what the fact costs.
 fn is_best(tables: &Tables, costs: &[u32], place: usize) -> bool
-    requires costs { AreSound tables.now (length costs.now) }
+    requires sound { AreSound tables.now (length costs.now) }
     requires place { place < length tables.now.gives }
     ensures { (unaries : List Unary) (u : Unary) → AreTablesOf unaries tables.now → slice_get unaries place ≡ Some u →
         result ≡ best (value_at costs.now) u }
@@ -22,7 +22,7 @@ fn is_best(tables: &Tables, costs: &[u32], place: usize) -> bool
 
 /// Whether a unary operator is a best supporter of a fact that isn't given yet, with conditions that are.
 pub fn is_ready(given: &[bool], tables: &Tables, costs: &[u32], place: usize) -> bool
-    requires costs { AreSound tables.now (length costs.now) }
+    requires sound { AreSound tables.now (length costs.now) }
     requires place { place < length tables.now.gives }
     ensures { (unaries : List Unary) (u : Unary) → AreTablesOf unaries tables.now → slice_get unaries place ≡ Some u →
         result ≡ ready given.now (value_at costs.now) u }

@@ -4,7 +4,6 @@ ghost use Rattle.sas_task.specs.Runs.{end_of, is_goal};
 ghost use Rattle.sas_task.specs.States.{IsState};
 ghost use Rattle.sas_task.specs.WellFormed.{IsWellFormed};
 ghost use Rattle.relaxed_task.specs.Relaxations.{IsRelaxed};
-ghost use Rattle.h_add.specs.Counts.{AreOnce};
 ghost use Rattle.h_ff.specs.RelaxedPlans.{IsFf};
 
 use crate::operators::cost;
@@ -47,7 +46,6 @@ impl Model for Ff {
 
 /// The evaluator over an additive one.
 fn planner(alloc: Global, add: Add, kind: CostKind) -> Result<Ff, NoMemory>
-    requires { AreOnce add.relaxed.unaries }
     ensures { IfOk result (λ ff. ff ≡ record { relaxed = add.relaxed; kind = kind; plan = []; preferred = [] }) }
 {
     let facts = add.relaxed().facts() as usize;

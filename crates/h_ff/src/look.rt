@@ -1,7 +1,6 @@
 // Facts are looked at in the order in which they are found, each once.
 ghost use Rattle.std.specs.Prelude.{◌≡◌, ℕ, List, length, false, slice_get, Some};
 ghost use Rattle.relaxed_task.specs.declared.unary.Unary.{Unary};
-ghost use Rattle.h_add.specs.Counts.{AreOnce};
 ghost use Rattle.h_add.specs.Tables.{AreTablesOf, AreSound};
 ghost use Rattle.h_add.specs.Values.{value_at};
 ghost use Rattle.h_ff.specs.Best.{is_ready};
@@ -18,9 +17,9 @@ impl Pass {
         requires costs { length costs.now ≡ length self.old.queued }
         requires seen { length conditions.old.seen ≡ length self.old.queued }
         requires counts { length conditions.old.counts ≡ length tables.now.gives }
-        ensures ordered { (unaries : List Unary) (start : List ℕ) → AreTablesOf unaries tables.now → AreOnce unaries →
+        ensures ordered { (unaries : List Unary) (start : List ℕ) → AreTablesOf unaries tables.now →
             IsOrdering unaries start (value_at costs.now) self.old conditions.old → IsOrder unaries start (value_at costs.now) self.new.given self.new.order }
-        ensures none { (unaries : List Unary) (start : List ℕ) → AreTablesOf unaries tables.now → AreOnce unaries →
+        ensures none { (unaries : List Unary) (start : List ℕ) → AreTablesOf unaries tables.now →
             IsOrdering unaries start (value_at costs.now) self.old conditions.old →
             (i : ℕ) (u : Unary) → slice_get unaries i ≡ Some u → is_ready self.new.given (value_at costs.now) u ≡ false }
         ensures long { length self.new.queued ≡ length self.old.queued }

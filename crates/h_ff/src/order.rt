@@ -9,7 +9,6 @@ ghost use Rattle.relaxed_task.specs.Reached.{is_among, start_facts};
 ghost use Rattle.relaxed_task.specs.Relaxations.{IsRelaxed};
 ghost use Rattle.relaxed_task.specs.Unaries.{is_below};
 ghost use Rattle.relaxed_task.specs.declared.unary.Unary.{Unary};
-ghost use Rattle.h_add.specs.Counts.{AreOnce};
 ghost use Rattle.h_add.specs.Tables.{AreTablesOf, AreSound};
 ghost use Rattle.h_add.specs.Values.{value_at};
 ghost use Rattle.h_ff.specs.Best.{is_given, is_ready};
@@ -65,9 +64,9 @@ impl Pass {
         requires costs { length costs.now ≡ length self.old.queued }
         requires seen { length conditions.old.seen ≡ length self.old.queued }
         requires counts { length conditions.old.counts ≡ length tables.now.gives }
-        ensures ordered { (unaries : List Unary) (start : List ℕ) → AreTablesOf unaries tables.now → AreOnce unaries →
+        ensures ordered { (unaries : List Unary) (start : List ℕ) → AreTablesOf unaries tables.now →
             ((fact : ℕ) → is_given self.old.given fact ≡ is_among start fact) → IsOrder unaries start (value_at costs.now) self.new.given self.new.order }
-        ensures none { (unaries : List Unary) → AreTablesOf unaries tables.now → AreOnce unaries →
+        ensures none { (unaries : List Unary) → AreTablesOf unaries tables.now →
             (i : ℕ) (u : Unary) → slice_get unaries i ≡ Some u → is_ready self.new.given (value_at costs.now) u ≡ false }
         ensures long { length self.new.queued ≡ length self.old.queued }
         ensures seen { length conditions.new.seen ≡ length conditions.old.seen }
@@ -80,7 +79,6 @@ impl Pass {
 
     /// Orders best supporters of an evaluated state, until none is ready any more.
     pub fn order_best(&mut self, add: &Add, state: &[u32], conditions: &mut OpenConditions)
-        requires once { AreOnce add.now.relaxed.unaries }
         requires facts { length self.old.queued ≡ add.now.relaxed.facts }
         requires seen { length conditions.old.seen ≡ add.now.relaxed.facts }
         requires counts { length conditions.old.counts ≡ length add.now.relaxed.unaries }

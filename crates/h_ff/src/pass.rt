@@ -148,7 +148,7 @@ impl Pass {
     /// Whether a unary operator is a best supporter of a fact that isn't given yet, with conditions
     /// that are.
     pub fn is_ready(&self, tables: &Tables, costs: &[u32], place: usize) -> bool
-        requires costs { AreSound tables.now (length costs.now) }
+        requires sound { AreSound tables.now (length costs.now) }
         requires place { place < length tables.now.gives }
         ensures { (unaries : List Unary) (u : Unary) → AreTablesOf unaries tables.now → slice_get unaries place ≡ Some u →
             result ≡ ready self.now.given (value_at costs.now) u }

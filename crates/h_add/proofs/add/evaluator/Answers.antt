@@ -8,7 +8,6 @@ invariant_of-result c =
       few = omega arith;
       tables_are = rw c.unary.ensures.unaries at c.in_ok-tables.ensures.tables;
       sound = rw facts at c.in_ok-tables.ensures.sound;
-      once = c.requires;
       costs_long = c.in_ok-costs.ensures.long ∙ facts;
       seen_long = c.in_ok-conditions.ensures.seen ∙ facts;
       counts_long = c.in_ok-conditions.ensures.counts ∙ c.len-2.ensures;

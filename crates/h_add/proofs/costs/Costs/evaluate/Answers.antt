@@ -13,7 +13,7 @@ use Rattle.h_add.proofs.Offering.{seen_later}
 use Rattle.h_add.proofs.costs.Costs.evaluate.Goals as goal
 
 pub returns-clause-evaluated : goal.returns-clause-evaluated
-returns-clause-evaluated c parts kind without tables once is of outs fact =
+returns-clause-evaluated c parts kind without tables is of outs fact =
     let unaries : List Unary = c.args.relaxed.now.unaries in
     let start : List ℕ = start_facts parts c.args.state.now in
     let outs_begun : IsOut without c.begin.new.self.out = rw c.begin.ensures.out outs in
@@ -30,4 +30,4 @@ returns-clause-evaluated c parts kind without tables once is of outs fact =
       counted = counted;
       unseen = seen_later _ _ _ _ _ c.offer_all.ensures.done unseen;
     } in
-    subst (λ (us : List Unary). IsLeast (λ (n : ℕ). add_round us start without n fact) (value_at c.look.new.self.costs fact)) is.unaries (c.look.ensures.least unaries start without tables once outs_offered looking fact)
+    subst (λ (us : List Unary). IsLeast (λ (n : ℕ). add_round us start without n fact) (value_at c.look.new.self.costs fact)) is.unaries (c.look.ensures.least unaries start without tables outs_offered looking fact)

@@ -28,10 +28,10 @@ facts-preserved c =
     let popped : IsWithout c.facts.self.waiting c.pop.new.self.waiting c.in-Some.fact = c.in-Some.ensures.popped in
     let in_seen : c.in-Some.fact < length c.facts.conditions.seen = omega (arith, c.in-Some.ensures.within, c.facts.invariant.seen, c.facts.invariant.costs, c.requires.seen) in
     record {
-      way = λ unaries start without tables once out is.
-          (let before = c.facts.invariant.way unaries start without tables once out is in
+      way = λ unaries start without tables out is.
+          (let before = c.facts.invariant.way unaries start without tables out is in
           let outs : IsOut without c.pop.new.self.out = rw (c.in-Some.ensures.out, c.facts.invariant.out) out in
-          let counted = c.see.ensures.counted unaries tables once before.counted in
+          let counted = c.see.ensures.counted unaries tables before.counted in
           let seen : IsSeen (value_at c.pop.new.self.costs) (is_waiting c.pop.new.self.waiting) (is_out c.see.new.self.seen) =
           rw (c.see.ensures.seen, c.in-Some.ensures.costs) (seen_after _ c.facts.self.waiting c.pop.new.self.waiting c.facts.conditions.seen c.in-Some.fact in_seen popped before.unseen) in
           let way : IsUnderWay unaries start without (value_at c.pop.new.self.costs) (is_waiting c.pop.new.self.waiting) c.row.result.now =
@@ -48,5 +48,5 @@ facts-preserved c =
     }
 
 pub returns-clause-least : goal.returns-clause-least
-returns-clause-least c unaries start without tables once out is fact =
-    rw c.in_default.ensures.costs (at_last unaries start without _ _ c.in_default.ensures.popped.1 (c.facts.invariant.way unaries start without tables once out is).way fact)
+returns-clause-least c unaries start without tables out is fact =
+    rw c.in_default.ensures.costs (at_last unaries start without _ _ c.in_default.ensures.popped.1 (c.facts.invariant.way unaries start without tables out is).way fact)

@@ -7,4 +7,4 @@ returns-then-is_met-clause-way c unaries start without owed tables out counted i
 
 pub returns-else-is_met-clause-way : goal.returns-else-is_met-clause-way
 returns-else-is_met-clause-way c unaries start without owed tables out counted is way =
-    skipped unaries start without _ _ _ c.args.place owed is (λ u at all. let k : false ≡ true = sym c.if-is_met.false ∙ c.is_met.ensures unaries u counted at all in cc) way
+    skipped unaries start without _ _ _ c.args.place owed is (λ u at all. let k : false ≡ true = sym c.if-is_met.false ∙ (c.is_met.ensures unaries u counted at ∙ all) in cc) way

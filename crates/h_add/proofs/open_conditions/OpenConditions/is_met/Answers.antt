@@ -4,5 +4,5 @@ use Rattle.h_add.proofs.Counting.{met}
 use Rattle.h_add.proofs.open_conditions.OpenConditions.is_met.Goals as goal
 
 pub returns : goal.returns
-returns c unaries u counted at all =
-    c.is_zero.ensures ∙ (ap (λ (xs : List ℕ). nat_eq (get_or xs c.args.place 0) 0) (c.deref.ensures.value ∙ ap (λ (k : Counting). k.counts) c.self.view_is) ∙ met unaries _ _ c.args.place u counted at all)
+returns c unaries u counted at =
+    c.is_zero.ensures ∙ (ap (λ (xs : List ℕ). nat_eq (get_or xs c.args.place 0) 0) (c.deref.ensures.value ∙ ap (λ (k : Counting). k.counts) c.self.view_is) ∙ met unaries _ _ c.args.place u counted at)

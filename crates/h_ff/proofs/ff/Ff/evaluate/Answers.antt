@@ -6,7 +6,6 @@ use Rattle.relaxed_task.specs.Relaxations.{IsRelaxed}
 use Rattle.sas_task.specs.declared.contents.CostKind.{CostKind}
 use Rattle.state_step.specs.Steps.{is_applicable}
 use Rattle.std.specs.List.{filter}
-use Rattle.h_add.specs.Counts.{AreOnce}
 use Rattle.h_add.specs.Values.{IsEvaluated}
 use Rattle.h_ff.specs.Orders.{chosen}
 use Rattle.h_ff.specs.Ready.{Planner}
@@ -14,9 +13,6 @@ use Rattle.h_ff.specs.RelaxedPlans.{AreOperatorsOf, cost_of}
 use Rattle.h_ff.proofs.Ordering.{relaxed_as}
 use Rattle.h_ff.proofs.Planning.{has_plan}
 use Rattle.h_ff.proofs.ff.Ff.evaluate.Goals as goal
-
-pub order_best-requires-clause-once : goal.order_best-requires-clause-once
-order_best-requires-clause-once c = subst (λ (l : Lists). AreOnce l.unaries) (sym c.evaluate.ensures.task) c.self.invariant.once
 
 pub returns-clause-answer : goal.returns-clause-answer
 returns-clause-answer c task of =

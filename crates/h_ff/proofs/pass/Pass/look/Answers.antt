@@ -12,11 +12,11 @@ facts-preserved c =
     let low : c.in-Some.fact < length c.facts.conditions.seen = omega (arith, at.2, c.facts.invariant.long, c.facts.invariant.seen, c.requires.seen) in
     let extends : Extends c.facts.self.queue c.offer_all.new.self.queue = rw c.take.ensures.queue at c.offer_all.ensures.extends in
     record {
-      ordering = λ unaries start tables once is.
-          (let before = c.facts.invariant.ordering unaries start tables once is in
+      ordering = λ unaries start tables is.
+          (let before = c.facts.invariant.ordering unaries start tables is in
           let queued = queue_below unaries _ _ _ _ _ _ _ at.0 at.1 before.pass in
           let pass = c.take.ensures.pass unaries _ before.pass queued in
-          let counted = c.see.ensures.counted unaries tables once before.counted in
+          let counted = c.see.ensures.counted unaries tables before.counted in
           let looked : AreGiven (is_out c.see.new.self.seen) c.take.new.self.given = rw c.see.ensures.seen (given_after c.facts.conditions.seen c.in-Some.fact _ _ c.take.ensures.given c.take.ensures.grows before.looked) in
           let owed : Owes unaries (value_at c.args.costs.now) c.take.new.self.queued (is_out c.see.new.self.seen) c.row.result.now = rw (c.see.ensures.seen, c.take.ensures.queued, c.row.ensures) (owes_row unaries _ _ _ _ _ c.in-Some.fact _ tables.needs refl (same_but c.facts.conditions.seen c.in-Some.fact) before.owes) in
           record {
@@ -33,6 +33,6 @@ facts-preserved c =
     }
 
 pub returns-clause-none : goal.returns-clause-none
-returns-clause-none c unaries start tables once is =
-    let last = c.facts.invariant.ordering unaries start tables once is in
+returns-clause-none c unaries start tables is =
+    let last = c.facts.invariant.ordering unaries start tables is in
     none_ready unaries _ _ _ c.facts.conditions.seen _ _ (λ k lt. c.facts.invariant.front k (omega (arith, lt, c.in_default.ensures.fact))) last.pass last.looked last.owes

@@ -24,8 +24,8 @@ begun_order c unaries start tables is =
     }
 
 pub returns-clause-ordered : goal.returns-clause-ordered
-returns-clause-ordered c unaries start tables once is = c.look.ensures.ordered unaries start tables once (begun_order c unaries start tables is)
+returns-clause-ordered c unaries start tables is = c.look.ensures.ordered unaries start tables (begun_order c unaries start tables is)
 
 pub returns-clause-none : goal.returns-clause-none
-returns-clause-none c unaries tables once =
-    c.look.ensures.none unaries c.args.self.now.queue tables once (begun_order c unaries c.args.self.now.queue tables (λ fact. c.requires.begun.given_is fact ∙ sym (c.requires.begun.queue_is fact)))
+returns-clause-none c unaries tables =
+    c.look.ensures.none unaries c.args.self.now.queue tables (begun_order c unaries c.args.self.now.queue tables (λ fact. c.requires.begun.given_is fact ∙ sym (c.requires.begun.queue_is fact)))
