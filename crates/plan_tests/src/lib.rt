@@ -1,10 +1,6 @@
-//! Tests of plan files: as texts, judged, in a folder, and left by a child.
+//! Tests of plan files: as texts, and judged.
 #![tactic(auto)]
 
-#[cfg(test)]
-mod collecting;
-#[cfg(test)]
-mod files;
 #[cfg(test)]
 mod texts;
 #[cfg(test)]

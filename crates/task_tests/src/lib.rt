@@ -1,7 +1,5 @@
-//! Tests of tasks: parts that are checked, and texts that are read.
+//! Tests of tasks: parts that are checked, and what a task answers.
 #![tactic(auto)]
 
 #[cfg(test)]
 mod checks;
-#[cfg(test)]
-mod reading;

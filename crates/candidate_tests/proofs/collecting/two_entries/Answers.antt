@@ -1,7 +1,7 @@
 use Rattle.std.proofs.Common.{[], ◌∷◌, ◌∙◌, arith}
 use Rattle.driver_core.specs.declared.events.Event.TheVariants.{Began}
-use Rattle.plan_tests.proofs.Entries.{one_begun, two_begun, two_gather, second_runs}
-use Rattle.plan_tests.proofs.collecting.two_entries.Goals as goal
+use Rattle.candidate_tests.proofs.Entries.{one_begun, two_begun, two_gather, second_runs}
+use Rattle.candidate_tests.proofs.collecting.two_entries.Goals as goal
 
 pub returns : goal.returns
 returns c =

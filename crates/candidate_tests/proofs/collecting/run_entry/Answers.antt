@@ -1,8 +1,8 @@
 use Rattle.std.proofs.Common.{◌≡◌, ◌++◌, [], ◌∷◌, map, false}
 use Rattle.driver_core.specs.declared.events.Event.TheVariants.{Ended}
 use Rattle.candidates.specs.Collecting.{offer_of}
-use Rattle.plan_tests.proofs.Entries.{other_gathers, goes_on_running}
-use Rattle.plan_tests.proofs.collecting.run_entry.Goals as goal
+use Rattle.candidate_tests.proofs.Entries.{other_gathers, goes_on_running}
+use Rattle.candidate_tests.proofs.collecting.run_entry.Goals as goal
 
 pub collect-requires-clause-gathering : goal.collect-requires-clause-gathering
 collect-requires-clause-gathering c = (c.requires.running.0, c.requires.running.1)

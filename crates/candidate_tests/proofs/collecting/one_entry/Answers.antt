@@ -1,7 +1,7 @@
 use Rattle.std.proofs.Common.{[], ◌∷◌, arith}
 use Rattle.driver_core.specs.declared.events.Event.TheVariants.{Began}
-use Rattle.plan_tests.proofs.Entries.{one_begun, one_gathers}
-use Rattle.plan_tests.proofs.collecting.one_entry.Goals as goal
+use Rattle.candidate_tests.proofs.Entries.{one_begun, one_gathers}
+use Rattle.candidate_tests.proofs.collecting.one_entry.Goals as goal
 
 pub returns : goal.returns
 returns c =
