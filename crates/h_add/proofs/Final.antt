@@ -15,7 +15,7 @@ use Rattle.relaxed_task.specs.declared.relaxation.Lists.{Lists}
 use Rattle.relaxed_task.specs.declared.unary.Unary.{Unary}
 use Rattle.relaxed_task.specs.NumberLaws.{numbers_by-is, state_below, number_by-is, number_below}
 use Rattle.relaxed_task.specs.Numbers.{numbers_by, number_of, numbers_of, number_by}
-use Rattle.relaxed_task.specs.Reached.{is_among, start_facts}
+use Rattle.relaxed_task.specs.NumberRounds.{is_among, start_facts}
 use Rattle.relaxed_task.specs.Relaxations.{IsRelaxed}
 use Rattle.h_add.specs.Counts.{unseen, IsCounted, IsSeen}
 use Rattle.h_add.specs.Marks.{AreMarked}

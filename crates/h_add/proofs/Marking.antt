@@ -6,8 +6,8 @@ use Rattle.std.proofs.lemmas.List.Folds.{list_any-append}
 use Rattle.lama_num.specs.declared.estimates.Estimate.TheVariants.{Finite, Infinite}
 use Rattle.relaxed_task.specs.declared.unary.Unary.{Unary}
 use Rattle.relaxed_task.specs.Estimates.{is_finite, IsAtMost}
-use Rattle.relaxed_task.specs.Reached.{is_among, is_in_round}
-use Rattle.relaxed_task.specs.Sums.{add_round}
+use Rattle.relaxed_task.specs.NumberRounds.{is_among, is_in_round}
+use Rattle.relaxed_task.specs.NumberSums.{add_round}
 use Rattle.relaxed_task.specs.AddLaws.{at_most_self, at_most_infinite}
 use Rattle.h_add.specs.Values.{estimate_of, value_at}
 use Rattle.h_add.specs.Queues.{is_waiting}

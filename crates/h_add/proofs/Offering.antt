@@ -6,10 +6,10 @@ use Rattle.std.proofs.lemmas.List.{drop_all, get_or_default}
 use Rattle.lama_num.specs.declared.estimates.Estimate.{Estimate}
 use Rattle.lama_num.specs.declared.estimates.Estimate.TheVariants.{Finite, Infinite}
 use Rattle.relaxed_task.specs.declared.unary.Unary.{Unary}
-use Rattle.relaxed_task.specs.Estimates.{is_finite, IsAtMost}
+use Rattle.relaxed_task.specs.Estimates.{is_finite, IsAtMost, IsLeast}
 use Rattle.lama_num.specs.Estimates.{estimate_sum}
-use Rattle.relaxed_task.specs.Reached.{is_among}
-use Rattle.relaxed_task.specs.Sums.{total, price, add_round, IsLeast}
+use Rattle.relaxed_task.specs.NumberRounds.{is_among}
+use Rattle.relaxed_task.specs.NumberSums.{total, price, add_round}
 use Rattle.relaxed_task.specs.AddLaws.{at_most_self, at_most_trans, at_most_infinite, infinite_where_not, finite_price}
 use Rattle.relaxed_task.specs.AnyOrder.{price_attained, any_order}
 use Rattle.h_add.specs.Values.{estimate_of, value_at}

@@ -7,7 +7,7 @@ use Rattle.lama_num.specs.declared.estimates.Estimate.TheVariants.{Finite, Infin
 use Rattle.lama_num.specs.Estimates.{estimate_sum}
 use Rattle.relaxed_task.specs.declared.unary.Unary.{Unary}
 use Rattle.relaxed_task.specs.AddLaws.{zero_plus, plus_zero, total_capped, plus_assoc}
-use Rattle.relaxed_task.specs.Sums.{total, price}
+use Rattle.relaxed_task.specs.NumberSums.{total, price}
 use Rattle.h_add.specs.Values.{estimate_of, value_at}
 use Rattle.relaxed_task.specs.Elements.{drop_within}
 

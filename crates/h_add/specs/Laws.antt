@@ -5,24 +5,42 @@ use Rattle.std.proofs.Common.{refl, sym, ap, ◌∙◌}
 use Rattle.lama_num.specs.Estimates.{estimate_sum}
 use Rattle.lama_num.specs.declared.estimates.Estimate.{Estimate}
 use Rattle.lama_num.specs.declared.estimates.Estimate.TheVariants.{Finite, Infinite}
+use Rattle.sas_task.specs.States.{IsState}
+use Rattle.sas_task.specs.WellFormed.{IsWellFormed, is_fact}
 use Rattle.sas_task.specs.declared.contents.CostKind.{CostKind}
+use Rattle.sas_task.specs.declared.contents.Fact.{Fact}
 use Rattle.sas_task.specs.declared.contents.Parts.{Parts}
-use Rattle.relaxed_task.specs.DeadLaws.{dead_where_infinite, infinite_where_dead}
+use Rattle.relaxed_task.specs.CostLaws.{cost_of_fact}
+use Rattle.relaxed_task.specs.DeadLaws.{any_of_facts, dead_where_infinite, infinite_where_dead}
 use Rattle.relaxed_task.specs.declared.relaxation.Lists.{Lists}
 use Rattle.relaxed_task.specs.declared.unary.Unary.{Unary}
 use Rattle.relaxed_task.specs.Estimates.{is_finite}
+use Rattle.relaxed_task.specs.Numbers.{number_of, numbers_of}
 use Rattle.relaxed_task.specs.Reached.{IsDead}
 use Rattle.relaxed_task.specs.Relaxations.{IsRelaxed}
-use Rattle.relaxed_task.specs.Sums.{total}
-use Rattle.h_add.specs.Values.{value_at, IsEvaluated}
+use Rattle.relaxed_task.specs.NumberSums.{costs_by, total}
+use Rattle.h_add.specs.Values.{value_at, IsEvaluated, IsEvaluatedByNumber}
+
+-- what is evaluated by number is evaluated
+pub evaluated_facts : (parts : Parts) (kind : CostKind) (state : List ℕ) (without : List Fact) (costs : List ℕ) → IsWellFormed parts → IsState parts.variables state → list_all (is_fact parts.variables) without ≡ true →
+    IsEvaluatedByNumber parts kind state (numbers_of parts.variables without) costs → IsEvaluated parts kind state without costs
+evaluated_facts parts kind state without costs formed of all each = record {
+  of_task = of;
+  each = λ fact h. cost_of_fact parts kind state without fact (costs_by parts.variables (value_at costs) fact) formed of all h (each (number_of parts.variables fact));
+}
 
 -- some goal fact is infinite exactly where the state is dead
 pub infinite_if_dead : (parts : Parts) (kind : CostKind) (relaxed : Lists) (state costs : List ℕ) → IsRelaxed parts kind relaxed → IsEvaluated parts kind state [] costs →
     (list_any (λ fact. not (is_finite (value_at costs fact))) relaxed.goals ≡ true) ↔ IsDead parts state
 infinite_if_dead parts kind relaxed state costs is evaluated = (
-  λ some. dead_where_infinite parts kind state (value_at costs) evaluated (rw is.goals at some),
-  λ dead. rw is.goals (infinite_where_dead parts kind state (value_at costs) evaluated dead),
+  λ some. dead_where_infinite parts kind state (costs_by parts.variables (value_at costs)) is.well_formed evaluated.of_task evaluated.each (sym goals ∙ some),
+  λ dead. goals ∙ infinite_where_dead parts kind state (costs_by parts.variables (value_at costs)) is.well_formed evaluated.of_task evaluated.each dead,
 )
+  where
+    goals : list_any (λ fact. not (is_finite (value_at costs fact))) relaxed.goals ≡ list_any (λ fact. not (is_finite (costs_by parts.variables (value_at costs) fact))) parts.goal
+    goals =
+        ap (list_any (λ fact. not (is_finite (value_at costs fact)))) is.goals
+        ∙ any_of_facts parts.variables (λ fact. not (is_finite (value_at costs fact))) parts.goal
 
 finite_or_not : (value : ℕ → Estimate) (facts : List ℕ) → list_all (λ fact. is_finite (value fact)) facts ≡ not (list_any (λ fact. not (is_finite (value fact))) facts)
 finite_or_not value [] = refl

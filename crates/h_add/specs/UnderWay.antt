@@ -5,8 +5,8 @@ use Rattle.lama_num.specs.declared.estimates.Estimate.{Estimate}
 use Rattle.lama_num.specs.declared.estimates.Estimate.TheVariants.{Finite}
 use Rattle.relaxed_task.specs.declared.unary.Unary.{Unary}
 use Rattle.relaxed_task.specs.Estimates.{is_finite, IsAtMost}
-use Rattle.relaxed_task.specs.Reached.{is_among, is_in_round}
-use Rattle.relaxed_task.specs.Sums.{price}
+use Rattle.relaxed_task.specs.NumberRounds.{is_among, is_in_round}
+use Rattle.relaxed_task.specs.NumberSums.{price}
 use Rattle.relaxed_task.specs.AnyOrder.{IsAttained}
 use Rattle.h_add.specs.Queues.{flags_set}
 

@@ -2,10 +2,13 @@
 use Rattle.std.specs.Prelude.{ℕ, List, nat_le, if◌then◌else◌, slice_index_or}
 use Rattle.lama_num.specs.declared.estimates.Estimate.{Estimate}
 use Rattle.lama_num.specs.declared.estimates.Estimate.TheVariants.{Finite, Infinite}
+use Rattle.sas_task.specs.States.{IsState}
 use Rattle.sas_task.specs.declared.contents.CostKind.{CostKind}
+use Rattle.sas_task.specs.declared.contents.Fact.{Fact}
 use Rattle.sas_task.specs.declared.contents.Parts.{Parts}
 use Rattle.relaxed_task.specs.declared.relaxation.Lists.{Lists}
-use Rattle.relaxed_task.specs.Sums.{IsAdd}
+use Rattle.relaxed_task.specs.AdditiveCosts.{AreAdditiveCosts}
+use Rattle.relaxed_task.specs.NumberSums.{costs_by, IsAdd}
 
 -- a cost as it is kept: one above 1,000,000,000 is infinite
 abbrev pub estimate_of : ℕ → Estimate
@@ -15,9 +18,14 @@ estimate_of cost = if nat_le cost 1000000000 then Finite cost else Infinite
 abbrev pub value_at : List ℕ → ℕ → Estimate
 value_at costs fact = estimate_of (slice_index_or costs fact 4294967295)
 
--- each fact has the cost that it has by the definition, where a state is evaluated without some facts
-abbrev pub IsEvaluated : Parts → CostKind → List ℕ → List ℕ → List ℕ → Type 0
-IsEvaluated parts kind state without costs = (fact : ℕ) → IsAdd parts kind state without fact (value_at costs fact)
+-- a state of the task was evaluated without some facts: each fact costs what it does by the definition
+pub record IsEvaluated (parts : Parts) (kind : CostKind) (state : List ℕ) (without : List Fact) (costs : List ℕ) : Type 0 where
+  pub of_task : IsState parts.variables state
+  pub each : AreAdditiveCosts parts kind state without (costs_by parts.variables (value_at costs))
+
+-- the same of all numbers of facts
+abbrev pub IsEvaluatedByNumber : Parts → CostKind → List ℕ → List ℕ → List ℕ → Type 0
+IsEvaluatedByNumber parts kind state without costs = (fact : ℕ) → IsAdd parts kind state without fact (value_at costs fact)
 
 -- What contracts see of an evaluator: the relaxation of its task, and what each fact costs by the last evaluation.
 pub record Evaluator : Type 0 where

@@ -5,13 +5,13 @@ ghost use Rattle.sas_task.specs.declared.contents.CostKind.{CostKind as TheKind}
 ghost use Rattle.sas_task.specs.declared.contents.Parts.{Parts};
 ghost use Rattle.sas_task.specs.Runs.{end_of, is_goal};
 ghost use Rattle.sas_task.specs.States.{IsState};
-ghost use Rattle.sas_task.specs.WellFormed.{IsWellFormed, is_fact};
-ghost use Rattle.relaxed_task.specs.Numbers.{number_of, numbers_of};
+ghost use Rattle.sas_task.specs.WellFormed.{is_fact};
+ghost use Rattle.sas_task.specs.declared.contents.Fact.{Fact as TheFact};
+ghost use Rattle.relaxed_task.specs.AdditiveCosts.{IsAdditiveCost, IsGoalValue};
 ghost use Rattle.relaxed_task.specs.Reached.{IsDead};
 ghost use Rattle.relaxed_task.specs.Relaxations.{IsRelaxed};
-ghost use Rattle.relaxed_task.specs.Sums.{IsAdd, IsGoalValue};
 ghost use Rattle.h_add.specs.Tables.{AreTablesOf, AreSound};
-ghost use Rattle.h_add.specs.Values.{value_at, IsEvaluated};
+ghost use Rattle.h_add.specs.Values.{value_at, IsEvaluated, IsEvaluatedByNumber};
 
 use crate::costs::Costs;
 use crate::evaluating::{some_infinite, value_of};
@@ -92,6 +92,8 @@ impl Add {
         ensures task { self.new.relaxed ≡ self.old.relaxed }
         ensures costs { (parts : Parts) (kind : TheKind) → IsRelaxed parts kind self.old.relaxed → IsState parts.variables state.now →
             IsEvaluated parts kind state.now [] self.new.costs }
+        ensures numbers { (parts : Parts) (kind : TheKind) → IsRelaxed parts kind self.old.relaxed → IsState parts.variables state.now →
+            IsEvaluatedByNumber parts kind state.now [] self.new.costs }
     {
         self.costs
             .evaluate(&self.relaxed, &self.tables, state, &mut self.conditions);
@@ -103,7 +105,7 @@ impl Add {
         ensures task { self.new.relaxed ≡ self.old.relaxed }
         ensures costs { (parts : Parts) (kind : TheKind) → IsRelaxed parts kind self.old.relaxed → IsState parts.variables state.now →
             IsTrue (list_all (is_fact parts.variables) excluded.now) →
-            IsEvaluated parts kind state.now (numbers_of parts.variables excluded.now) self.new.costs }
+            IsEvaluated parts kind state.now excluded.now self.new.costs }
     {
         self.costs.evaluate_without(
             &self.relaxed,
@@ -116,9 +118,9 @@ impl Add {
 
     /// What a fact costs.
     pub fn value(&self, fact: Fact) -> Estimate
-        ensures { (parts : Parts) (kind : TheKind) (state without : List ℕ) → IsRelaxed parts kind self.now.relaxed →
+        ensures { (parts : Parts) (kind : TheKind) (state : List ℕ) (without : List TheFact) → IsRelaxed parts kind self.now.relaxed →
             IsEvaluated parts kind state without self.now.costs → IsTrue (is_fact parts.variables fact) →
-            IsAdd parts kind state without (number_of parts.variables fact) result }
+            IsAdditiveCost parts kind state without fact result }
     {
         let number = self.relaxed.number(fact.var as usize, fact.val);
         value_of(self.costs.as_slice(), number)
@@ -142,7 +144,7 @@ impl Add {
     /// The sum of what the goal facts cost, each once. It is finite where all of them are reached, and
     /// then at most 1,000,000,000.
     pub fn goal_value(&self) -> Estimate
-        ensures value { (parts : Parts) (kind : TheKind) (state without : List ℕ) → IsRelaxed parts kind self.now.relaxed →
+        ensures value { (parts : Parts) (kind : TheKind) (state : List ℕ) (without : List TheFact) → IsRelaxed parts kind self.now.relaxed →
             IsEvaluated parts kind state without self.now.costs → IsGoalValue parts kind state without result }
         ensures dead { (parts : Parts) (kind : TheKind) (state : List ℕ) → IsRelaxed parts kind self.now.relaxed →
             IsEvaluated parts kind state [] self.now.costs → ((result ≡ Estimate.Infinite) ↔ IsDead parts state) }
@@ -155,8 +157,7 @@ impl Add {
         ensures exact { (parts : Parts) (kind : TheKind) (state : List ℕ) → IsRelaxed parts kind self.now.relaxed →
             IsEvaluated parts kind state [] self.now.costs → (IsTrue result ↔ IsDead parts state) }
         ensures safe { (parts : Parts) (kind : TheKind) (state ops last : List ℕ) → IsRelaxed parts kind self.now.relaxed →
-            IsEvaluated parts kind state [] self.now.costs → IsWellFormed parts → IsState parts.variables state → IsTrue result →
-            end_of parts state ops ≡ Some last → is_goal parts last ≡ false }
+            IsEvaluated parts kind state [] self.now.costs → IsTrue result → end_of parts state ops ≡ Some last → is_goal parts last ≡ false }
     {
         some_infinite(self.costs.as_slice(), self.relaxed.goals())
     }

@@ -11,7 +11,7 @@ ghost use Rattle.relaxed_task.specs.Relaxations.{IsRelaxed};
 ghost use Rattle.h_add.specs.Marks.{AreMarked};
 ghost use Rattle.h_add.specs.Tables.{AreTablesOf, AreSound, are_below};
 ghost use Rattle.h_add.specs.UnderWay.{IsOut, is_out};
-ghost use Rattle.h_add.specs.Values.{value_at, IsEvaluated};
+ghost use Rattle.h_add.specs.Values.{value_at, IsEvaluatedByNumber};
 
 use crate::costs::Costs;
 use crate::open_conditions::OpenConditions;
@@ -72,7 +72,7 @@ impl Costs {
         requires seen { length conditions.old.seen ≡ relaxed.now.facts }
         requires counts { length conditions.old.counts ≡ length tables.now.gives }
         ensures evaluated { (parts : Parts) (kind : CostKind) (without : List ℕ) → AreTablesOf relaxed.now.unaries tables.now →
-            IsRelaxed parts kind relaxed.now → IsState parts.variables state.now → IsOut without self.old.out → IsEvaluated parts kind state.now without self.new.costs }
+            IsRelaxed parts kind relaxed.now → IsState parts.variables state.now → IsOut without self.old.out → IsEvaluatedByNumber parts kind state.now without self.new.costs }
         ensures out { self.new.out ≡ self.old.out }
         ensures costs { length self.new.costs ≡ length self.old.costs }
         ensures counts { length conditions.new.counts ≡ length conditions.old.counts }
@@ -111,7 +111,7 @@ impl Costs {
         requires counts { length conditions.old.counts ≡ length tables.now.gives }
         ensures evaluated { (parts : Parts) (kind : CostKind) → AreTablesOf relaxed.now.unaries tables.now →
             IsRelaxed parts kind relaxed.now → IsState parts.variables state.now → IsTrue (list_all (is_fact parts.variables) excluded.now) →
-            IsEvaluated parts kind state.now (numbers_of parts.variables excluded.now) self.new.costs }
+            IsEvaluatedByNumber parts kind state.now (numbers_of parts.variables excluded.now) self.new.costs }
         ensures none_out { (fact : ℕ) → is_out self.new.out fact ≡ false }
         ensures costs { length self.new.costs ≡ length self.old.costs }
         ensures counts { length conditions.new.counts ≡ length conditions.old.counts }

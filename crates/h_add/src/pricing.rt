@@ -1,8 +1,8 @@
 // Sums of what facts cost.
-ghost use Rattle.std.specs.Prelude.{◌≡◌, ◌≤◌, ◌<◌, ℕ, List, length, min, IsTrue, slice_get, Some};
+ghost use Rattle.std.specs.Prelude.{◌≡◌, ◌<◌, List, length, min, IsTrue, slice_get, Some};
 ghost use Rattle.lama_num.specs.Estimates.{estimate_sum};
 ghost use Rattle.relaxed_task.specs.declared.unary.Unary.{Unary};
-ghost use Rattle.relaxed_task.specs.Sums.{total as total_of, price as price_of};
+ghost use Rattle.relaxed_task.specs.NumberSums.{total as total_of, price as price_of};
 ghost use Rattle.h_add.specs.Values.{estimate_of, value_at};
 ghost use Rattle.h_add.specs.Tables.{AreTablesOf, AreSound, are_below};
 

@@ -1,10 +1,8 @@
 // The unary operators in flat tables.
-ghost use Rattle.std.specs.Prelude.{◌≡◌, ◌≤◌, ◌<◌, ◌^◌, ◌∷◌, ◌++◌, ℕ, List, length, map, min, IfOk, OnOk, IsTrue, true, slice_set, slice_index_or, [], replicate};
+ghost use Rattle.std.specs.Prelude.{◌≡◌, ◌<◌, ◌^◌, length, map, IfOk, IsTrue, true};
 ghost use Rattle.std.specs.List.{list_all};
 ghost use Rattle.relaxed_task.specs.Unaries.{is_unary_below};
-ghost use Rattle.relaxed_task.specs.Reached.{is_among};
-ghost use Rattle.h_add.specs.Rows.{row_at};
-ghost use Rattle.h_add.specs.Tables.{AreTablesOf, AreSound, AreFree, IsNeeds, are_within, are_below};
+ghost use Rattle.h_add.specs.Tables.{AreTablesOf, AreSound, AreFree, are_within};
 
 use crate::needs::needs_of;
 use crate::rows::Rows;

@@ -11,9 +11,9 @@ use Rattle.lama_num.specs.declared.estimates.Estimate.{Estimate}
 use Rattle.lama_num.specs.declared.estimates.Estimate.TheVariants.{Finite, Infinite}
 use Rattle.relaxed_task.specs.declared.unary.Unary.{Unary}
 use Rattle.relaxed_task.specs.Estimates.{is_finite}
-use Rattle.relaxed_task.specs.Reached.{is_among}
-use Rattle.relaxed_task.specs.Sums.{price}
-use Rattle.relaxed_task.specs.Plans.{IsInOrder, AreBest, IsBest, IsSupported}
+use Rattle.relaxed_task.specs.NumberRounds.{is_among}
+use Rattle.relaxed_task.specs.NumberSums.{price}
+use Rattle.relaxed_task.specs.NumberPlans.{IsInOrder, AreBest, IsBest, IsSupported}
 use Rattle.relaxed_task.specs.Supports.{AreLeast, finite_had}
 use Rattle.relaxed_task.specs.Kept.{kept, kept_is_supported}
 use Rattle.h_ff.specs.Best.{is_given, is_same, is_ready, clear_flags}

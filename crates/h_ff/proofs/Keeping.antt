@@ -2,8 +2,8 @@
 use Rattle.std.proofs.Common.{◌≡◌, ◌∙◌, sym, ap, subst, refl, ℕ, ◌+◌, ◌<◌, List, [], ◌∷◌, ◌++◌, length, drop, get_or, nat_eq, if◌then◌else◌, Bool, true, false, ◌||◌, Option, Some, None, slice_get, reverse}
 use Rattle.std.proofs.lemmas.List.Folds.{list_any-append}
 use Rattle.relaxed_task.specs.declared.unary.Unary.{Unary}
-use Rattle.relaxed_task.specs.Reached.{is_among}
-use Rattle.relaxed_task.specs.Plans.{asked}
+use Rattle.relaxed_task.specs.NumberRounds.{is_among}
+use Rattle.relaxed_task.specs.NumberPlans.{asked}
 use Rattle.std.proofs.lemmas.List.{reverse-append}
 use Rattle.h_ff.proofs.Grows.{chosen_grows}
 use Rattle.relaxed_task.specs.Kept.{kept}

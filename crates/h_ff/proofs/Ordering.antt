@@ -11,7 +11,7 @@ use Rattle.relaxed_task.specs.declared.relaxation.Lists.{Lists}
 use Rattle.relaxed_task.specs.declared.unary.Unary.{Unary}
 use Rattle.relaxed_task.specs.Numbers.{numbers_by, facts_of}
 use Rattle.relaxed_task.specs.NumberLaws.{numbers_by-is, state_below}
-use Rattle.relaxed_task.specs.Reached.{is_among, start_facts}
+use Rattle.relaxed_task.specs.NumberRounds.{is_among, start_facts}
 use Rattle.relaxed_task.specs.Relaxations.{IsRelaxed}
 use Rattle.relaxed_task.specs.Unaries.{is_below}
 use Rattle.lama_num.specs.Lists.{both}

@@ -1,25 +1,28 @@
 -- What is needed of an order is a relaxed plan.
-use Rattle.std.proofs.Common.{◌≡◌, ◌∙◌, sym, ap, subst, refl, ℕ, ◌+◌, ◌≤◌, List, [], ◌∷◌, ◌++◌, length, length-append, Bool, true, false, not, nat_lt, ◌&&◌, ◌||◌, arith, reverse, if◌then◌else◌, Contains, Some, slice_get, filter}
-use Rattle.std.specs.List.{list_all, list_any}
+use Rattle.std.proofs.Common.{◌≡◌, ◌∙◌, sym, ap, subst, refl, ℕ, ◌+◌, ◌≤◌, List, [], ◌∷◌, ◌++◌, length, length-append, Bool, true, false, nat_lt, ◌||◌, arith, map, reverse, if◌then◌else◌, Contains, Option, Some, None, slice_get, filter}
 use Rattle.sas_task.specs.declared.contents.CostKind.{CostKind}
 use Rattle.sas_task.specs.declared.contents.Parts.{Parts}
+use Rattle.sas_task.specs.declared.contents.Variable.{Variable}
 use Rattle.lama_num.specs.declared.estimates.Estimate.{Estimate}
 use Rattle.relaxed_task.specs.declared.relaxation.Lists.{Lists}
 use Rattle.relaxed_task.specs.declared.unary.Unary.{Unary}
-use Rattle.relaxed_task.specs.Estimates.{is_finite}
-use Rattle.relaxed_task.specs.Numbers.{numbers_of, distinct}
-use Rattle.relaxed_task.specs.Unaries.{unaries_of}
-use Rattle.relaxed_task.specs.Reached.{IsDead, is_among, start_facts}
+use Rattle.relaxed_task.specs.Estimates.{IsLeast}
+use Rattle.relaxed_task.specs.Numbers.{numbers_of}
+use Rattle.relaxed_task.specs.Unaries.{by_number, numbered_unaries}
+use Rattle.relaxed_task.specs.UnaryOperators.{UnaryOperator, distinct_facts}
+use Rattle.relaxed_task.specs.NumberRounds.{is_among, start_facts}
+use Rattle.relaxed_task.specs.Reached.{IsDead}
 use Rattle.relaxed_task.specs.Relaxations.{IsRelaxed}
 use Rattle.relaxed_task.specs.Kept.{kept}
-use Rattle.relaxed_task.specs.Plans.{IsSupported}
-use Rattle.relaxed_task.specs.Sums.{IsLeast, add_round}
-use Rattle.relaxed_task.specs.DeadLaws.{dead_where_infinite}
+use Rattle.relaxed_task.specs.NumberPlans.{IsSupported}
+use Rattle.relaxed_task.specs.NumberSums.{costs_by, add_round}
+use Rattle.relaxed_task.specs.PlanLaws.{supported_by_facts}
 use Rattle.state_step.specs.Steps.{is_applicable}
-use Rattle.h_add.specs.Values.{value_at, IsEvaluated}
+use Rattle.h_add.specs.Laws.{finite_if_alive}
+use Rattle.h_add.specs.Values.{value_at, IsEvaluated, IsEvaluatedByNumber}
 use Rattle.h_ff.specs.Best.{is_given, is_ready}
-use Rattle.h_ff.specs.Orders.{chosen, IsOrder, kept_places, is_needed, are_places}
-use Rattle.h_ff.specs.RelaxedPlans.{ops_of, AreOperatorsOf, HasPlan, cost_of}
+use Rattle.h_ff.specs.Orders.{chosen, IsOrder, kept_places, is_needed, are_places, ops_of}
+use Rattle.h_ff.specs.RelaxedPlans.{operators_of, AreEachOnce, HasPlan, cost_of}
 use Rattle.h_ff.proofs.Grows.{plan_of_order}
 use Rattle.h_ff.proofs.Keeping.{places_of_plan}
 use Rattle.h_ff.proofs.UsedOperators.{ops_reversed, ops_forward}
@@ -60,40 +63,34 @@ planned unaries goals order places ops is same op =
       (λ h. (same op).1 (subst (λ (list : List Unary). Contains (ops_of list) op) (sym back) (ops_forward (kept goals (chosen unaries order)) op h))),
     )
 
--- where the state isn't dead, all goal facts are reached
-all_finite : (p : ℕ → Bool) (facts : List ℕ) → list_any (λ fact. not (p fact)) facts ≡ false → list_all p facts ≡ true
-all_finite p [] none = refl
-all_finite p (f ∷ facts) none = by_test (p f) none (λ rest. all_finite p facts rest)
-  where
-    by_test : (b : Bool) → (not b || list_any (λ fact. not (p fact)) facts) ≡ false → (list_any (λ fact. not (p fact)) facts ≡ false → list_all p facts ≡ true) → (b && list_all p facts) ≡ true
-    by_test true none rest = rest none
-    by_test false none rest = let k : true ≡ false = none in absurd cc
-
-pub goals_finite : (parts : Parts) (kind : CostKind) (state costs : List ℕ) → IsEvaluated parts kind state [] costs → (IsDead parts state → ⊥) → list_all (λ fact. is_finite (value_at costs fact)) (distinct (numbers_of parts.variables parts.goal)) ≡ true
-goals_finite parts kind state costs evaluated alive =
-    all_finite (λ fact. is_finite (value_at costs fact)) (distinct (numbers_of parts.variables parts.goal)) (by_test (list_any (λ fact. not (is_finite (value_at costs fact))) (distinct (numbers_of parts.variables parts.goal))) refl)
-  where
-    by_test : (b : Bool) → list_any (λ fact. not (is_finite (value_at costs fact))) (distinct (numbers_of parts.variables parts.goal)) ≡ b → b ≡ false
-    by_test true is = absurd (alive (dead_where_infinite parts kind state (value_at costs) evaluated is))
-    by_test false is = refl
-
 supported_as : (unaries other : List Unary) (goals more start : List ℕ) (costs : ℕ → Estimate) (list : List Unary) → unaries ≡ other → goals ≡ more → IsSupported unaries start costs goals list → IsSupported other start costs more list
 supported_as unaries other goals more start costs list a b is =
     subst (λ (us : List Unary). IsSupported us start costs more list) a (subst (λ (gs : List ℕ). IsSupported unaries start costs gs list) b is)
 
+same_ops : (variables : List Variable) (list : List UnaryOperator) → ops_of (map (by_number variables) list) ≡ operators_of list
+same_ops variables [] = refl
+same_ops variables (u ∷ list) = by_op u.op refl (same_ops variables list)
+  where
+    by_op : (o : Option ℕ) → u.op ≡ o → ops_of (map (by_number variables) list) ≡ operators_of list → ops_of (map (by_number variables) (u ∷ list)) ≡ operators_of (u ∷ list)
+    by_op None is rest = rw is rest
+    by_op (Some op) is rest = rw is (ap (λ (ops : List ℕ). op ∷ ops) rest)
+
 -- what FF answers where the state isn't dead
-pub has_plan : (parts : Parts) (kind : CostKind) (state costs : List ℕ) (lists : Lists) (given : List Bool) (order ops preferred : List ℕ) (value : ℕ) → IsRelaxed parts kind lists → IsEvaluated parts kind state [] costs → (IsDead parts state → ⊥) →
+pub has_plan : (parts : Parts) (kind : CostKind) (state costs : List ℕ) (lists : Lists) (given : List Bool) (order ops preferred : List ℕ) (value : ℕ) → IsRelaxed parts kind lists → IsEvaluated parts kind state [] costs → IsEvaluatedByNumber parts kind state [] costs → (IsDead parts state → ⊥) →
     IsOrder lists.unaries (start_facts parts state) (value_at costs) given order → ((i : ℕ) (u : Unary) → slice_get lists.unaries i ≡ Some u → is_ready given (value_at costs) u ≡ false) →
-    AreOperatorsOf (kept lists.goals (chosen lists.unaries order)) ops → value ≡ cost_of parts kind ops → preferred ≡ filter (is_applicable parts state) ops → HasPlan parts kind state value ops preferred
-has_plan parts kind state costs lists given order ops preferred value is evaluated alive ordered none operators cost applicable =
-    let finite = subst (λ (facts : List ℕ). list_all (λ fact. is_finite (value_at costs fact)) facts ≡ true) (sym is.goals) (goals_finite parts kind state costs evaluated alive) in
-    let least = subst (λ (unaries : List Unary). (fact : ℕ) → IsLeast (λ n. add_round unaries (start_facts parts state) [] n fact) (value_at costs fact)) (sym is.unaries) evaluated in
-    let supported = plan_of_order lists.unaries (start_facts parts state) (value_at costs) given order lists.goals least ordered none finite in
+    AreEachOnce (ops_of (kept lists.goals (chosen lists.unaries order))) ops → value ≡ cost_of parts kind ops → preferred ≡ filter (is_applicable parts state) ops → HasPlan parts kind state value ops preferred
+has_plan parts kind state costs lists given order ops preferred value is evaluated numbers alive ordered none operators cost applicable =
+    let list : List Unary = kept lists.goals (chosen lists.unaries order) in
+    let finite = finite_if_alive parts kind lists state costs is evaluated alive in
+    let least = subst (λ (unaries : List Unary). (fact : ℕ) → IsLeast (λ n. add_round unaries (start_facts parts state) [] n fact) (value_at costs fact)) (sym is.unaries) numbers in
+    let by_numbers = plan_of_order lists.unaries (start_facts parts state) (value_at costs) given order lists.goals least ordered none finite in
+    let named = supported_by_facts parts kind state (value_at costs) list is.well_formed evaluated.of_task
+    (supported_as lists.unaries (numbered_unaries parts kind) lists.goals (numbers_of parts.variables (distinct_facts parts.goal)) (start_facts parts state) (value_at costs) list is.unaries is.goals by_numbers) in
     record {
       alive = alive;
-      list = kept lists.goals (chosen lists.unaries order);
-      plan = record { costs = value_at costs; each = evaluated; supported = supported_as lists.unaries (unaries_of parts kind) lists.goals (distinct (numbers_of parts.variables parts.goal)) (start_facts parts state) (value_at costs) (kept lists.goals (chosen lists.unaries order)) is.unaries is.goals supported };
-      operators = operators;
+      list = named.list;
+      plan = record { costs = costs_by parts.variables (value_at costs); each = evaluated.each; supported = named.supported };
+      operators = subst (λ (used : List ℕ). AreEachOnce used ops) (ap ops_of (sym named.same) ∙ same_ops parts.variables named.list) operators;
       cost = cost;
       applicable = applicable;
     }
@@ -107,5 +104,5 @@ marked_goals goals shown old new same clear marks fact =
     or_false true = refl
     or_false false = refl
 
-pub operators_as : (unaries shown : List Unary) (goals order ops : List ℕ) → shown ≡ unaries → AreOperatorsOf (kept goals (chosen shown order)) ops → AreOperatorsOf (kept goals (chosen unaries order)) ops
-operators_as unaries shown goals order ops same is = subst (λ (us : List Unary). AreOperatorsOf (kept goals (chosen us order)) ops) same is
+pub operators_as : (unaries shown : List Unary) (goals order ops : List ℕ) → shown ≡ unaries → AreEachOnce (ops_of (kept goals (chosen shown order))) ops → AreEachOnce (ops_of (kept goals (chosen unaries order))) ops
+operators_as unaries shown goals order ops same is = subst (λ (us : List Unary). AreEachOnce (ops_of (kept goals (chosen us order))) ops) same is

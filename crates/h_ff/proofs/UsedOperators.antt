@@ -11,8 +11,7 @@ use Rattle.axiom_eval.specs.Within.{is_within}
 use Rattle.state_step.specs.Steps.{is_applicable}
 use Rattle.relaxed_task.specs.Within.{fitting}
 use Rattle.relaxed_task.specs.declared.unary.Unary.{Unary}
-use Rattle.h_ff.specs.Orders.{chosen}
-use Rattle.h_ff.specs.RelaxedPlans.{ops_of}
+use Rattle.h_ff.specs.Orders.{chosen, ops_of}
 use Rattle.h_ff.proofs.Grows.{chosen_grows}
 
 -- one place more

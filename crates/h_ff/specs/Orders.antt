@@ -3,8 +3,8 @@ use Rattle.std.specs.Prelude.{◌≡◌, ℕ, List, [], ◌∷◌, ◌++◌, map
 use Rattle.std.specs.List.{list_all, filter_map}
 use Rattle.lama_num.specs.declared.estimates.Estimate.{Estimate}
 use Rattle.relaxed_task.specs.declared.unary.Unary.{Unary}
-use Rattle.relaxed_task.specs.Reached.{is_among}
-use Rattle.relaxed_task.specs.Plans.{IsInOrder, AreBest, asked}
+use Rattle.relaxed_task.specs.NumberRounds.{is_among}
+use Rattle.relaxed_task.specs.NumberPlans.{IsInOrder, AreBest, asked}
 use Rattle.relaxed_task.specs.Kept.{kept}
 use Rattle.h_ff.specs.Best.{is_given}
 
@@ -14,6 +14,10 @@ chosen unaries order = filter_map (λ i. slice_get unaries i) order
 
 abbrev pub are_places : ℕ → List ℕ → Bool
 are_places n order = list_all (λ i. nat_lt i n) order
+
+-- their operators, one after the other; a rule has none
+abbrev pub ops_of : List Unary → List ℕ
+ops_of list = filter_map (λ u. u.op) list
 
 abbrev pub given_by : List Unary → List ℕ
 given_by list = map (λ u. u.gives) list

@@ -8,18 +8,18 @@ use Rattle.sas_task.specs.declared.contents.CostKind.{CostKind}
 use Rattle.sas_task.specs.declared.contents.Parts.{Parts}
 use Rattle.sas_task.specs.Costs.{adjusted_cost}
 use Rattle.state_step.specs.Steps.{is_applicable}
-use Rattle.relaxed_task.specs.declared.unary.Unary.{Unary}
-use Rattle.relaxed_task.specs.Reached.{IsDead}
 use Rattle.relaxed_task.specs.Plans.{IsRelaxedPlan}
+use Rattle.relaxed_task.specs.Reached.{IsDead}
+use Rattle.relaxed_task.specs.UnaryOperators.{UnaryOperator}
 
 -- the operators of unary operators, one after the other; a rule has none
-abbrev pub ops_of : List Unary → List ℕ
-ops_of list = filter_map (λ u. u.op) list
+abbrev pub operators_of : List UnaryOperator → List ℕ
+operators_of list = filter_map (λ u. u.op) list
 
--- the operators of unary operators, ascending, each once
-pub record AreOperatorsOf (list : List Unary) (ops : List ℕ) : Type 0 where
-  pub ascending : IsStrictlyIncreasing ops
-  pub each : (op : ℕ) → Contains ops op ↔ Contains (ops_of list) op
+-- the numbers of a list, ascending, each once
+pub record AreEachOnce (all once : List ℕ) : Type 0 where
+  pub ascending : IsStrictlyIncreasing once
+  pub each : (number : ℕ) → Contains once number ↔ Contains all number
 
 -- what operators cost together, at most 1,000,000,000
 abbrev pub cost_of : Parts → CostKind → List ℕ → ℕ
@@ -28,9 +28,9 @@ cost_of parts kind ops = min (sum_by (λ op. adjusted_cost parts op kind) ops) 1
 -- a value with the operators of a relaxed plan, and those of them that are applicable
 pub record HasPlan (parts : Parts) (kind : CostKind) (state : List ℕ) (value : ℕ) (ops preferred : List ℕ) : Type 0 where
   pub alive : IsDead parts state → ⊥
-  pub list : List Unary
+  pub list : List UnaryOperator
   pub plan : IsRelaxedPlan parts kind state list
-  pub operators : AreOperatorsOf list ops
+  pub operators : AreEachOnce (operators_of list) ops
   pub cost : value ≡ cost_of parts kind ops
   pub applicable : preferred ≡ filter (is_applicable parts state) ops
 

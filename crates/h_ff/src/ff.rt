@@ -2,7 +2,6 @@
 ghost use Rattle.std.specs.Prelude.{◌≡◌, ℕ, List, [], length, false, Some, IfOk};
 ghost use Rattle.sas_task.specs.Runs.{end_of, is_goal};
 ghost use Rattle.sas_task.specs.States.{IsState};
-ghost use Rattle.sas_task.specs.WellFormed.{IsWellFormed};
 ghost use Rattle.relaxed_task.specs.Relaxations.{IsRelaxed};
 ghost use Rattle.h_ff.specs.RelaxedPlans.{IsFf};
 
@@ -82,7 +81,7 @@ impl Ff {
         ensures kind { self.new.kind ≡ self.old.kind }
         ensures answer { IsRelaxed task.now self.old.kind self.old.relaxed → IsState task.now.variables state.now →
             IsFf task.now self.old.kind state.now result self.new.plan self.new.preferred }
-        ensures safe { (ops last : List ℕ) → IsRelaxed task.now self.old.kind self.old.relaxed → IsWellFormed task.now → IsState task.now.variables state.now →
+        ensures safe { (ops last : List ℕ) → IsRelaxed task.now self.old.kind self.old.relaxed → IsState task.now.variables state.now →
             result ≡ Estimate.Infinite → end_of task.now state.now ops ≡ Some last → is_goal task.now last ≡ false }
     {
         self.plan.clear();

@@ -1,11 +1,11 @@
 // One order of best supporters, from a state on.
-ghost use Rattle.std.specs.Prelude.{◌≡◌, ◌<◌, ◌≤◌, ◌||◌, ℕ, List, length, true, false, slice_get, Some};
+ghost use Rattle.std.specs.Prelude.{◌≡◌, ◌||◌, ℕ, List, length, true, false, slice_get, Some};
 ghost use Rattle.std.specs.List.{list_all};
 ghost use Rattle.sas_task.specs.States.{IsState};
 ghost use Rattle.sas_task.specs.declared.contents.CostKind.{CostKind};
 ghost use Rattle.sas_task.specs.declared.contents.Parts.{Parts};
 ghost use Rattle.relaxed_task.specs.Numbers.{numbers_by};
-ghost use Rattle.relaxed_task.specs.Reached.{is_among, start_facts};
+ghost use Rattle.relaxed_task.specs.NumberRounds.{is_among, start_facts};
 ghost use Rattle.relaxed_task.specs.Relaxations.{IsRelaxed};
 ghost use Rattle.relaxed_task.specs.Unaries.{is_below};
 ghost use Rattle.relaxed_task.specs.declared.unary.Unary.{Unary};

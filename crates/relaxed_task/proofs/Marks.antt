@@ -1,24 +1,30 @@
 -- Lists of facts, each once, and marks of facts.
-use Rattle.std.specs.Prelude.{◌≡◌, ℕ, ◌<◌, zero, suc, List, [], ◌∷◌, ◌++◌, length, Bool, true, false, not, nat_eq, nat_lt, filter, ◌||◌}
-use Rattle.std.specs.List.{list_all}
+use Rattle.std.specs.Prelude.{◌≡◌, ◌≢◌, ℕ, ◌<◌, zero, suc, List, [], ◌∷◌, ◌++◌, length, Bool, true, false, not, nat_eq, nat_lt, filter, ◌||◌}
+use Rattle.std.specs.List.{list_all, list_any}
 use Rattle.std.proofs.Common.{arith, refl, sym, ap, ◌∙◌, append_assoc, ◌⊎◌, inl, inr}
 use Rattle.std.proofs.lemmas.Bool.Decides.{nat_tests}
 use Rattle.std.proofs.lemmas.List.Elements.{filter-append}
 use Rattle.sas_task.specs.declared.contents.Fact.{Fact}
+use Rattle.relaxed_task.specs.Elements.{places}
 use Rattle.relaxed_task.specs.Numbers.{distinct, number_by}
 use Rattle.relaxed_task.specs.Unaries.{is_below}
-use Rattle.relaxed_task.specs.Reached.{is_among}
-use Rattle.relaxed_task.specs.DeadLaws.{any_filter}
+use Rattle.relaxed_task.specs.NumberRounds.{is_among}
 use Rattle.relaxed_task.specs.Making.{is_marked, AreMarked, with_one, with_all, all_numbers_by}
+
+-- a test of some element passes over one that fails it
+any_filter : (p : ℕ → Bool) (x : ℕ) (xs : List ℕ) → p x ≡ false → list_any p (filter (λ y. not (nat_eq y x)) xs) ≡ list_any p xs
+any_filter p x [] fails = refl
+any_filter p x (y ∷ xs) fails = by_place (places y x) (any_filter p x xs fails)
+  where
+    by_place : ((y ≡ x) × (nat_eq y x ≡ true)) ⊎ ((y ≢ x) × (nat_eq y x ≡ false)) → list_any p (filter (λ y. not (nat_eq y x)) xs) ≡ list_any p xs → list_any p (filter (λ y. not (nat_eq y x)) (y ∷ xs)) ≡ list_any p (y ∷ xs)
+    by_place (inl here) rest = let no : p y ≡ false = ap p here.0 ∙ fails in rw (here.1, no) rest
+    by_place (inr apart) rest = rw apart.1 (ap (λ b. p y || b) rest)
 
 -- each once, of a list with one more
 pub distinct-more : (xs : List ℕ) (y : ℕ) → distinct (xs ++ y ∷ []) ≡ with_one (distinct xs) y
 distinct-more [] y = refl
 distinct-more (x ∷ xs) y = by_place (places y x) (distinct-more xs y)
   where
-    places : (m n : ℕ) → ((m ≡ n) × (nat_eq m n ≡ true)) ⊎ (nat_eq m n ≡ false)
-    places m n = grind (arith, nat_tests)
-
     rest : List ℕ
     rest = filter (λ z. not (nat_eq z x)) (distinct xs)
 
@@ -38,11 +44,11 @@ distinct-more (x ∷ xs) y = by_place (places y x) (distinct-more xs y)
         let there : is_among rest y ≡ false = any_filter (nat_eq y) x (distinct xs) is ∙ among in
         rw (among, there) (filter-append (λ z. not (nat_eq z x)) (distinct xs) (y ∷ []) ∙ rw is refl)
 
-    by_place : ((y ≡ x) × (nat_eq y x ≡ true)) ⊎ (nat_eq y x ≡ false) → distinct (xs ++ y ∷ []) ≡ with_one (distinct xs) y → distinct ((x ∷ xs) ++ y ∷ []) ≡ with_one (distinct (x ∷ xs)) y
+    by_place : ((y ≡ x) × (nat_eq y x ≡ true)) ⊎ ((y ≢ x) × (nat_eq y x ≡ false)) → distinct (xs ++ y ∷ []) ≡ with_one (distinct xs) y → distinct ((x ∷ xs) ++ y ∷ []) ≡ with_one (distinct (x ∷ xs)) y
     by_place (inl here) before =
         ap (λ t. x ∷ filter (λ z. not (nat_eq z x)) t) before ∙ (ap (λ t. x ∷ t) (same (is_among (distinct xs) y) refl here.1) ∙ rw here.1 refl)
     by_place (inr is) before =
-        ap (λ t. x ∷ filter (λ z. not (nat_eq z x)) t) before ∙ (ap (λ t. x ∷ t) (other (is_among (distinct xs) y) refl is) ∙ turn (is_among rest y) refl is)
+        ap (λ t. x ∷ filter (λ z. not (nat_eq z x)) t) before ∙ (ap (λ t. x ∷ t) (other (is_among (distinct xs) y) refl is.1) ∙ turn (is_among rest y) refl is.1)
       where
         turn : (b : Bool) → is_among rest y ≡ b → nat_eq y x ≡ false → x ∷ with_one rest y ≡ with_one (x ∷ rest) y
         turn true among is = rw (is, among) refl

@@ -1,7 +1,8 @@
 -- What is made by where each variable's facts begin is what the task's facts by number are.
 use Rattle.std.specs.Prelude.{◌≡◌, ℕ, ◌+◌, ◌<◌, suc, List, [], ◌∷◌, ◌++◌, length, Bool, true, false, nat_lt, map, filter, slice_index, if◌then◌else◌}
 use Rattle.std.specs.List.{list_all, enumerate_from, flat_map}
-use Rattle.std.proofs.Common.{arith, refl, ap, ◌∙◌}
+use Rattle.std.proofs.Common.{arith, refl, sym, ap, ◌∙◌}
+use Rattle.std.proofs.lemmas.List.{map-append}
 use Rattle.std.proofs.lemmas.Bool.Decides.{nat_tests}
 use Rattle.lama_num.specs.Lists.{both}
 use Rattle.sas_task.specs.Costs.{adjusted_cost}
@@ -17,8 +18,10 @@ use Rattle.sas_task.specs.declared.contents.Parts.{Parts}
 use Rattle.relaxed_task.specs.declared.unary.Unary.{Unary}
 use Rattle.relaxed_task.specs.Numbers.{number_by, number_of, numbers_of, fact_at, distinct}
 use Rattle.relaxed_task.specs.NumberLaws.{number_by-is, number_below, is_numbered, state_fact}
-use Rattle.relaxed_task.specs.Unaries.{unaries_of, unaries_of_operator, unary_of_effect, unary_of_rule}
-use Rattle.relaxed_task.specs.Reached.{defaults_of}
+use Rattle.relaxed_task.specs.Unaries.{by_number, numbered_unaries}
+use Rattle.relaxed_task.specs.UnaryLaws.{distinct_numbers}
+use Rattle.relaxed_task.specs.UnaryOperators.{UnaryOperator, distinct_facts, from_effect, from_rule}
+use Rattle.relaxed_task.specs.NumberRounds.{defaults_of}
 use Rattle.relaxed_task.specs.Relaxations.{IsOffsets}
 use Rattle.relaxed_task.specs.Within.{weaker, effect_facts, operator_facts, rule_facts, operators_facts, rules_facts}
 use Rattle.relaxed_task.specs.Making.{has_number, have_numbers, effect_has_numbers, operator_has_numbers, rule_has_numbers, all_numbers_by, effect_by, rule_by, operator_by, operators_by, defaults_by}
@@ -74,44 +77,52 @@ all_of_two p [] ys a b = b
 all_of_two p (x ∷ xs) ys a b = let t = both (p x) (list_all p xs) a in join _ _ t.0 (all_of_two p xs ys t.1 b)
 
 effect_same : (parts : Parts) (kind : CostKind) (offsets : List ℕ) (op : ℕ) (o : Operator) (e : Effect) → IsOffsets parts.variables offsets → list_all (is_fact parts.variables) o.pre ≡ true → effect_facts parts.variables e ≡ true →
-    effect_by offsets op (adjusted_cost parts op kind) o.pre e ≡ unary_of_effect parts kind op o e
+    effect_by offsets op (adjusted_cost parts op kind) o.pre e ≡ by_number parts.variables (from_effect parts kind op o e)
 effect_same parts kind offsets op o e is pre all =
     let t = both (list_all (is_fact parts.variables) e.conds) (is_fact parts.variables e.fact) all in
-    rw (numbers_same parts.variables offsets (o.pre ++ e.conds) is (all_of_two (is_fact parts.variables) o.pre e.conds pre t.0), number_by-is parts.variables offsets e.fact is t.1) refl
+    let facts = all_of_two (is_fact parts.variables) o.pre e.conds pre t.0 in
+    rw (numbers_same parts.variables offsets (o.pre ++ e.conds) is facts, distinct_numbers parts.variables (o.pre ++ e.conds) facts, number_by-is parts.variables offsets e.fact is t.1) refl
 
 effects_same : (parts : Parts) (kind : CostKind) (offsets : List ℕ) (op : ℕ) (o : Operator) (effects : List Effect) → IsOffsets parts.variables offsets → list_all (is_fact parts.variables) o.pre ≡ true → list_all (effect_facts parts.variables) effects ≡ true →
-    map (effect_by offsets op (adjusted_cost parts op kind) o.pre) effects ≡ map (unary_of_effect parts kind op o) effects
+    map (effect_by offsets op (adjusted_cost parts op kind) o.pre) effects ≡ map (by_number parts.variables) (map (from_effect parts kind op o) effects)
 effects_same parts kind offsets op o [] is pre all = refl
 effects_same parts kind offsets op o (e ∷ effects) is pre all =
     let t = both (effect_facts parts.variables e) (list_all (effect_facts parts.variables) effects) all in
     ap (λ u. u ∷ map (effect_by offsets op (adjusted_cost parts op kind) o.pre) effects) (effect_same parts kind offsets op o e is pre t.0)
-    ∙ ap (λ us. unary_of_effect parts kind op o e ∷ us) (effects_same parts kind offsets op o effects is pre t.1)
+    ∙ ap (λ us. by_number parts.variables (from_effect parts kind op o e) ∷ us) (effects_same parts kind offsets op o effects is pre t.1)
+
+abbrev from_operators : Parts → CostKind → ℕ → List Operator → List UnaryOperator
+from_operators parts kind k operators = flat_map (λ p. map (from_effect parts kind p.0 p.1) p.1.effects) (enumerate_from k operators)
 
 operators_from : (parts : Parts) (kind : CostKind) (offsets : List ℕ) (k : ℕ) (operators : List Operator) → IsOffsets parts.variables offsets → list_all (operator_facts parts.variables) operators ≡ true →
-    flat_map (λ p. operator_by parts kind offsets p.0 p.1) (enumerate_from k operators) ≡ flat_map (λ p. unaries_of_operator parts kind p.0 p.1) (enumerate_from k operators)
+    flat_map (λ p. operator_by parts kind offsets p.0 p.1) (enumerate_from k operators) ≡ map (by_number parts.variables) (from_operators parts kind k operators)
 operators_from parts kind offsets k [] is all = refl
 operators_from parts kind offsets k (o ∷ operators) is all =
     let t = both (operator_facts parts.variables o) (list_all (operator_facts parts.variables) operators) all in
     let own = both (list_all (is_fact parts.variables) o.pre) (list_all (effect_facts parts.variables) o.effects) t.0 in
     ap (λ us. us ++ flat_map (λ p. operator_by parts kind offsets p.0 p.1) (enumerate_from (k + 1) operators)) (effects_same parts kind offsets k o o.effects is own.0 own.1)
-    ∙ ap (λ us. unaries_of_operator parts kind k o ++ us) (operators_from parts kind offsets (k + 1) operators is t.1)
+    ∙ (ap (λ us. map (by_number parts.variables) (map (from_effect parts kind k o) o.effects) ++ us) (operators_from parts kind offsets (k + 1) operators is t.1)
+    ∙ sym (map-append (by_number parts.variables) (map (from_effect parts kind k o) o.effects) (from_operators parts kind (k + 1) operators)))
 
-rules_same : (parts : Parts) (offsets : List ℕ) (rules : List Rule) → IsOffsets parts.variables offsets → list_all (rule_facts parts.variables) rules ≡ true → map (rule_by offsets) rules ≡ map (unary_of_rule parts) rules
+rules_same : (parts : Parts) (offsets : List ℕ) (rules : List Rule) → IsOffsets parts.variables offsets → list_all (rule_facts parts.variables) rules ≡ true → map (rule_by offsets) rules ≡ map (by_number parts.variables) (map from_rule rules)
 rules_same parts offsets [] is all = refl
 rules_same parts offsets (r ∷ rules) is all =
     let t = both (rule_facts parts.variables r) (list_all (rule_facts parts.variables) rules) all in
     let own = both (list_all (is_fact parts.variables) r.conds) (is_fact parts.variables r.head) t.0 in
-    let here : rule_by offsets r ≡ unary_of_rule parts r = rw (numbers_same parts.variables offsets r.conds is own.0, number_by-is parts.variables offsets r.head is own.1) refl in
-    ap (λ u. u ∷ map (rule_by offsets) rules) here ∙ ap (λ us. unary_of_rule parts r ∷ us) (rules_same parts offsets rules is t.1)
+    let here : rule_by offsets r ≡ by_number parts.variables (from_rule r) = rw (numbers_same parts.variables offsets r.conds is own.0, distinct_numbers parts.variables r.conds own.0, number_by-is parts.variables offsets r.head is own.1) refl in
+    ap (λ u. u ∷ map (rule_by offsets) rules) here ∙ ap (λ us. by_number parts.variables (from_rule r) ∷ us) (rules_same parts offsets rules is t.1)
 
 pub unaries_same : (parts : Parts) (kind : CostKind) (offsets : List ℕ) (one two three : List Unary) → IsWellFormed parts → IsOffsets parts.variables offsets →
-    one ≡ [] → two ≡ one ++ operators_by parts kind offsets parts.operators → three ≡ two ++ map (rule_by offsets) parts.rules → three ≡ unaries_of parts kind
+    one ≡ [] → two ≡ one ++ operators_by parts kind offsets parts.operators → three ≡ two ++ map (rule_by offsets) parts.rules → three ≡ numbered_unaries parts kind
 unaries_same parts kind offsets one two three formed is none operators rules =
-    let a : two ≡ flat_map (λ p. unaries_of_operator parts kind p.0 p.1) (enumerate_from 0 parts.operators) = operators ∙ (ap (λ us. us ++ operators_by parts kind offsets parts.operators) none ∙ operators_from parts kind offsets 0 parts.operators is (operators_facts parts formed)) in
-    rules ∙ (ap (λ us. us ++ map (rule_by offsets) parts.rules) a ∙ ap (λ us. flat_map (λ p. unaries_of_operator parts kind p.0 p.1) (enumerate_from 0 parts.operators) ++ us) (rules_same parts offsets parts.rules is (rules_facts parts formed)))
+    let a : two ≡ map (by_number parts.variables) (from_operators parts kind 0 parts.operators) = operators ∙ (ap (λ us. us ++ operators_by parts kind offsets parts.operators) none ∙ operators_from parts kind offsets 0 parts.operators is (operators_facts parts formed)) in
+    rules ∙ (ap (λ us. us ++ map (rule_by offsets) parts.rules) a ∙ (ap (λ us. map (by_number parts.variables) (from_operators parts kind 0 parts.operators) ++ us) (rules_same parts offsets parts.rules is (rules_facts parts formed))
+    ∙ sym (map-append (by_number parts.variables) (from_operators parts kind 0 parts.operators) (map from_rule parts.rules))))
 
-pub goals_same : (parts : Parts) (offsets goals : List ℕ) → IsWellFormed parts → IsOffsets parts.variables offsets → goals ≡ distinct (all_numbers_by offsets (parts.goal ++ [])) → goals ≡ distinct (numbers_of parts.variables parts.goal)
-goals_same parts offsets goals formed is made = made ∙ ap distinct (ap (all_numbers_by offsets) (nothing parts.goal) ∙ numbers_same parts.variables offsets parts.goal is (goal-facts parts formed))
+pub goals_same : (parts : Parts) (offsets goals : List ℕ) → IsWellFormed parts → IsOffsets parts.variables offsets → goals ≡ distinct (all_numbers_by offsets (parts.goal ++ [])) → goals ≡ numbers_of parts.variables (distinct_facts parts.goal)
+goals_same parts offsets goals formed is made =
+    made ∙ (ap distinct (ap (all_numbers_by offsets) (nothing parts.goal) ∙ numbers_same parts.variables offsets parts.goal is (goal-facts parts formed))
+    ∙ distinct_numbers parts.variables parts.goal (goal-facts parts formed))
   where
     nothing : (zs : List Fact) → zs ++ [] ≡ zs
     nothing [] = refl

@@ -5,9 +5,9 @@ use Rattle.lama_num.specs.declared.estimates.Estimate.{Estimate}
 use Rattle.lama_num.specs.declared.estimates.Estimate.TheVariants.{Finite, Infinite}
 use Rattle.relaxed_task.specs.declared.unary.Unary.{Unary}
 use Rattle.lama_num.specs.Estimates.{estimate_sum}
-use Rattle.relaxed_task.specs.Estimates.{least, IsAtMost}
-use Rattle.relaxed_task.specs.Reached.{is_in_round, is_among}
-use Rattle.relaxed_task.specs.Sums.{total, price, cheapest, add_round, IsLeast}
+use Rattle.relaxed_task.specs.Estimates.{least, IsAtMost, IsLeast}
+use Rattle.relaxed_task.specs.NumberRounds.{is_in_round, is_among}
+use Rattle.relaxed_task.specs.NumberSums.{total, price, cheapest, add_round}
 use Rattle.relaxed_task.specs.AddLaws.{at_most_self, at_most_trans, at_most_infinite, least_is_less, falls}
 
 -- orders

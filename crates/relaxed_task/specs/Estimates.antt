@@ -1,5 +1,5 @@
 -- The lesser of estimates, and their order.
-use Rattle.std.specs.Prelude.{◌≤◌, min, Bool, true, false}
+use Rattle.std.specs.Prelude.{◌≡◌, ◌≤◌, ℕ, min, Bool, true, false}
 use Rattle.lama_num.specs.declared.estimates.Estimate.{Estimate}
 use Rattle.lama_num.specs.declared.estimates.Estimate.TheVariants.{Finite, Infinite}
 
@@ -19,3 +19,9 @@ IsAtMost (Finite a) (Finite b) = a ≤ b
 IsAtMost (Finite a) Infinite = Unit {0}
 IsAtMost Infinite (Finite b) = ⊥
 IsAtMost Infinite Infinite = Unit {0}
+
+-- the least over all rounds
+pub record IsLeast (values : ℕ → Estimate) (value : Estimate) : Type 0 where
+  pub round : ℕ
+  pub is : values round ≡ value
+  pub least : (n : ℕ) → IsAtMost value (values n)

@@ -5,8 +5,8 @@ use Rattle.std.proofs.lemmas.Bool.Decides.{nat_tests}
 use Rattle.std.proofs.lemmas.List.Folds.{list_any-append}
 use Rattle.lama_num.specs.declared.estimates.Estimate.{Estimate}
 use Rattle.relaxed_task.specs.declared.unary.Unary.{Unary}
-use Rattle.relaxed_task.specs.Reached.{is_among}
-use Rattle.relaxed_task.specs.Plans.{IsInOrder, IsAsked, AreBest, IsSupported, asked}
+use Rattle.relaxed_task.specs.NumberRounds.{is_among}
+use Rattle.relaxed_task.specs.NumberPlans.{IsInOrder, IsAsked, AreBest, IsSupported, asked}
 use Rattle.lama_num.specs.Lists.{both}
 use Rattle.relaxed_task.specs.Elements.{join, places}
 

@@ -1,41 +1,43 @@
 -- What the relaxation reaches, by rounds, and dead states.
-use Rattle.std.specs.Prelude.{◌≡◌, ℕ, zero, suc, List, [], ◌++◌, map, filter, Bool, false, ◌&&◌, ◌||◌, not, nat_eq, IsTrue, slice_get, Some}
-use Rattle.std.specs.List.{list_all, list_any, enumerate_from}
-use Rattle.sas_task.specs.WellFormed.{is_derived}
+use Rattle.std.specs.Prelude.{◌≡◌, ℕ, zero, suc, List, [], ◌++◌, Bool, false, ◌&&◌, ◌||◌, not, slice_get, Some, IsTrue}
+use Rattle.std.specs.List.{list_all, list_any}
+use Rattle.sas_task.specs.Facts.{same_fact, has_fact}
+use Rattle.sas_task.specs.WellFormed.{is_derived, is_default}
+use Rattle.sas_task.specs.States.{holds}
 use Rattle.sas_task.specs.declared.contents.Fact.{Fact}
-use Rattle.sas_task.specs.declared.contents.CostKind.TheVariants.{Normal}
+use Rattle.sas_task.specs.declared.contents.Effect.{Effect}
+use Rattle.sas_task.specs.declared.contents.Operator.{Operator}
+use Rattle.sas_task.specs.declared.contents.Rule.{Rule}
 use Rattle.sas_task.specs.declared.contents.Parts.{Parts}
-use Rattle.relaxed_task.specs.declared.unary.Unary.{Unary}
-use Rattle.relaxed_task.specs.Numbers.{number_of, facts_of, fact_at}
-use Rattle.relaxed_task.specs.Unaries.{unaries_of}
 
--- the default facts of derived variables
-abbrev pub defaults_of : Parts → List ℕ
-defaults_of parts = map (λ p. number_of parts.variables (fact_at p.0 p.1)) (filter (λ p. is_derived parts.variables p.0) (enumerate_from 0 parts.init))
+-- it holds, or it is the default of a derived variable
+abbrev pub is_at_start : Parts → List ℕ → Fact → Bool
+is_at_start parts state fact = holds state fact || (is_derived parts.variables fact.var && is_default parts.init fact)
 
--- what is reached from the start: the facts of a state, and every default fact of a derived variable
-abbrev pub start_facts : Parts → List ℕ → List ℕ
-start_facts parts state = facts_of parts.variables state ++ defaults_of parts
+-- the effect gives the fact, where the operator's conditions and its own are reached
+abbrev pub effect_gives : (Fact → Bool) → Fact → Operator → Effect → Bool
+effect_gives reached fact operator effect = same_fact effect.fact fact && list_all reached (operator.pre ++ effect.conds)
 
-abbrev pub is_among : List ℕ → ℕ → Bool
-is_among facts fact = list_any (nat_eq fact) facts
+abbrev pub rule_gives : (Fact → Bool) → Fact → Rule → Bool
+rule_gives reached fact rule = same_fact rule.head fact && list_all reached rule.conds
 
--- Round 0 has the start. Each next one adds what is given by the unary operators whose conditions are in the round before.
+abbrev pub is_given : Parts → (Fact → Bool) → Fact → Bool
+is_given parts reached fact = list_any (λ o. list_any (effect_gives reached fact o) o.effects) parts.operators || list_any (rule_gives reached fact) parts.rules
+
+-- Round 0 has what is there at the start. Each next one adds what effects and rules give whose conditions are in the round before.
 -- What is left out is in no round.
-abbrev pub is_in_round : List Unary → List ℕ → List ℕ → ℕ → ℕ → Bool
-is_in_round unaries start without zero fact = is_among start fact && not (is_among without fact)
-is_in_round unaries start without (suc n) fact =
-    is_in_round unaries start without n fact ||
-    (list_any (λ u. nat_eq u.gives fact && list_all (is_in_round unaries start without n) u.conds) unaries && not (is_among without fact))
+abbrev pub is_reached_in : Parts → List ℕ → List Fact → ℕ → Fact → Bool
+is_reached_in parts state without zero fact = is_at_start parts state fact && not (has_fact without fact)
+is_reached_in parts state without (suc n) fact =
+    is_reached_in parts state without n fact || (is_given parts (is_reached_in parts state without n) fact && not (has_fact without fact))
 
 -- in some round
-abbrev pub IsReached : Parts → List ℕ → List ℕ → Fact → Type 0
-IsReached parts state without fact =
-    (n : ℕ) × IsTrue (is_in_round (unaries_of parts Normal) (start_facts parts state) without n (number_of parts.variables fact))
+abbrev pub IsReached : Parts → List ℕ → List Fact → Fact → Type 0
+IsReached parts state without fact = (n : ℕ) × IsTrue (is_reached_in parts state without n fact)
 
--- some goal fact is in no round
+-- some goal fact is in no round, with nothing left out
 pub record IsDead (parts : Parts) (state : List ℕ) : Type 0 where
   pub place : ℕ
   pub goal : Fact
   pub at : slice_get parts.goal place ≡ Some goal
-  pub unreached : (n : ℕ) → is_in_round (unaries_of parts Normal) (start_facts parts state) [] n (number_of parts.variables goal) ≡ false
+  pub unreached : (n : ℕ) → is_reached_in parts state [] n goal ≡ false

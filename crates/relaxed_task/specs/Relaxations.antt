@@ -1,14 +1,15 @@
 -- The relaxation of a task.
 use Rattle.std.specs.Prelude.{◌≡◌, ℕ, ◌<◌, ◌≤◌, List, length, take, slice_index, IsTrue}
 use Rattle.std.specs.List.{list_all}
-use Rattle.sas_task.specs.WellFormed.{fact_count}
+use Rattle.sas_task.specs.WellFormed.{IsWellFormed, fact_count}
 use Rattle.sas_task.specs.declared.contents.CostKind.{CostKind}
 use Rattle.sas_task.specs.declared.contents.Variable.{Variable}
 use Rattle.sas_task.specs.declared.contents.Parts.{Parts}
 use Rattle.relaxed_task.specs.declared.relaxation.Lists.{Lists}
-use Rattle.relaxed_task.specs.Numbers.{numbers_of, distinct}
-use Rattle.relaxed_task.specs.Unaries.{unaries_of, is_below, is_unary_below}
-use Rattle.relaxed_task.specs.Reached.{defaults_of}
+use Rattle.relaxed_task.specs.Numbers.{numbers_of}
+use Rattle.relaxed_task.specs.Unaries.{numbered_unaries, is_below, is_unary_below}
+use Rattle.relaxed_task.specs.UnaryOperators.{distinct_facts}
+use Rattle.relaxed_task.specs.NumberRounds.{defaults_of}
 
 -- all facts are among those that there are, which aren't too many
 pub record IsSound (lists : Lists) : Type 0 where
@@ -22,10 +23,11 @@ pub record IsOffsets (variables : List Variable) (offsets : List ℕ) : Type 0 w
   pub long : length offsets ≡ length variables
   pub each : (var : ℕ) → var < length variables → slice_index offsets var ≡ fact_count (take var variables)
 
--- the relaxation of these parts, with costs of this kind
+-- the relaxation of these well-formed parts, with costs of this kind
 pub record IsRelaxed (parts : Parts) (kind : CostKind) (lists : Lists) : Type 0 where
+  pub well_formed : IsWellFormed parts
   pub offsets : IsOffsets parts.variables lists.offsets
   pub facts : lists.facts ≡ fact_count parts.variables
-  pub unaries : lists.unaries ≡ unaries_of parts kind
+  pub unaries : lists.unaries ≡ numbered_unaries parts kind
   pub defaults : lists.defaults ≡ defaults_of parts
-  pub goals : lists.goals ≡ distinct (numbers_of parts.variables parts.goal)
+  pub goals : lists.goals ≡ numbers_of parts.variables (distinct_facts parts.goal)

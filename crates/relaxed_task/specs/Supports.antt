@@ -6,9 +6,9 @@ use Rattle.lama_num.specs.declared.estimates.Estimate.{Estimate}
 use Rattle.lama_num.specs.declared.estimates.Estimate.TheVariants.{Finite, Infinite}
 use Rattle.relaxed_task.specs.declared.unary.Unary.{Unary}
 use Rattle.lama_num.specs.Estimates.{estimate_sum}
-use Rattle.relaxed_task.specs.Estimates.{least, is_finite, IsAtMost}
-use Rattle.relaxed_task.specs.Reached.{is_in_round}
-use Rattle.relaxed_task.specs.Sums.{total, price, cheapest, add_round, IsLeast}
+use Rattle.relaxed_task.specs.Estimates.{least, is_finite, IsAtMost, IsLeast}
+use Rattle.relaxed_task.specs.NumberRounds.{is_in_round}
+use Rattle.relaxed_task.specs.NumberSums.{total, price, cheapest, add_round}
 use Rattle.relaxed_task.specs.AddLaws.{at_most_self, at_most_trans, IsCapped, total_capped, cheapest_capped}
 use Rattle.relaxed_task.specs.AnyOrder.{at_most_both, price_at_most, price_attained, IsClosed}
 use Rattle.relaxed_task.specs.Elements.{join}

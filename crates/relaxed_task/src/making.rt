@@ -4,10 +4,11 @@ ghost use Rattle.std.specs.List.{list_all};
 ghost use Rattle.sas_task.specs.WellFormed.{fact_count, is_derived as derived};
 ghost use Rattle.sas_task.specs.States.{IsState};
 ghost use Rattle.sas_task.specs.Runs.{end_of, is_goal};
-ghost use Rattle.relaxed_task.specs.Numbers.{numbers_of, distinct};
-ghost use Rattle.relaxed_task.specs.Unaries.{unaries_of};
-ghost use Rattle.relaxed_task.specs.Reached.{defaults_of};
-ghost use Rattle.relaxed_task.specs.FactRounds.{HasUnreachedGoal};
+ghost use Rattle.relaxed_task.specs.Numbers.{numbers_of};
+ghost use Rattle.relaxed_task.specs.Unaries.{numbered_unaries};
+ghost use Rattle.relaxed_task.specs.UnaryOperators.{distinct_facts};
+ghost use Rattle.relaxed_task.specs.NumberRounds.{defaults_of};
+ghost use Rattle.relaxed_task.specs.Reached.{IsDead};
 ghost use Rattle.relaxed_task.specs.Relaxations.{IsOffsets, IsRelaxed};
 ghost use Rattle.relaxed_task.specs.Making.{AreMarked, have_numbers, effect_has_numbers, operator_has_numbers, rule_has_numbers, effect_by, rule_by, operators_by, defaults_by};
 
@@ -207,7 +208,7 @@ fn make_unaries(
     requires offsets { IsOffsets task.now.variables offsets.now }
     requires marks { length marks.old ≡ fact_count task.now.variables }
     requires clear { AreMarked marks.old [] }
-    ensures unaries { IfOk result (λ unaries. unaries.items ≡ unaries_of task.now kind) }
+    ensures unaries { IfOk result (λ unaries. unaries.items ≡ numbered_unaries task.now kind) }
     ensures clear { OnOk result (AreMarked marks.new []) }
     ensures long { length marks.new ≡ length marks.old }
 {
@@ -238,7 +239,7 @@ fn find_goals(
     requires offsets { IsOffsets task.now.variables offsets.now }
     requires marks { length marks.old ≡ fact_count task.now.variables }
     requires clear { AreMarked marks.old [] }
-    ensures { IfOk result (λ goals. goals ≡ distinct (numbers_of task.now.variables task.now.goal)) }
+    ensures { IfOk result (λ goals. goals ≡ numbers_of task.now.variables (distinct_facts task.now.goal)) }
 {
     let parts = task.parts();
     let goals = conditions(alloc, offsets, marks, &parts.goal, &[])?;
@@ -253,7 +254,7 @@ impl Relaxed {
     /// operators leads to the goal.
     pub fn new(alloc: Global, task: &Task, kind: CostKind) -> Result<Relaxed, NoMemory>
         ensures relaxation { IfOk result (λ relaxed. IsRelaxed task.now kind relaxed) }
-        ensures dead_ends { OnOk result ((state ops last : List ℕ) → IsState task.now.variables state → HasUnreachedGoal task.now state →
+        ensures dead_ends { OnOk result ((state ops last : List ℕ) → IsState task.now.variables state → IsDead task.now state →
             end_of task.now state ops ≡ Some last → is_goal task.now last ≡ false) }
     {
         let parts = task.parts();

@@ -1,5 +1,5 @@
 use Rattle.std.proofs.Common.{◌∙◌, ap, ◌<◌, ◌++◌, ◌∷◌, [], List, ℕ, length, refl, arith}
-use Rattle.h_ff.specs.RelaxedPlans.{ops_of}
+use Rattle.h_ff.specs.Orders.{ops_of}
 use Rattle.h_ff.proofs.Lists.{place_at, at_place}
 use Rattle.h_ff.proofs.UsedOperators.{ops_more}
 use Rattle.h_ff.proofs.operators.add_operators.Goals as goal

@@ -1,8 +1,8 @@
 use Rattle.std.proofs.Common.{◌≡◌, ◌∙◌, sym, ap, ℕ, List, not}
 use Rattle.std.specs.List.{list_any}
 use Rattle.relaxed_task.specs.DeadEnds.{dead_states_stay_dead}
-use Rattle.relaxed_task.specs.DeadLaws.{dead_where_infinite, infinite_where_dead}
 use Rattle.relaxed_task.specs.Estimates.{is_finite}
+use Rattle.h_add.specs.Laws.{infinite_if_dead}
 use Rattle.h_add.specs.Values.{value_at, Evaluator}
 use Rattle.h_add.proofs.add.Add.is_dead.Goals as goal
 
@@ -15,12 +15,10 @@ looks c =
 
 pub returns-clause-exact : goal.returns-clause-exact
 returns-clause-exact c parts kind state is evaluated =
-    let answer = looks c in (
-      λ yes_dead. dead_where_infinite parts kind state (value_at c.args.self.now.costs) evaluated (rw is.goals at (sym answer ∙ yes_dead)),
-      λ dead. answer ∙ rw is.goals (infinite_where_dead parts kind state (value_at c.args.self.now.costs) evaluated dead),
-    )
+    let same = infinite_if_dead parts kind c.args.self.now.relaxed state c.args.self.now.costs is evaluated in
+    (λ yes_dead. same.0 (sym (looks c) ∙ yes_dead), λ dead. looks c ∙ same.1 dead)
 
 pub returns-clause-safe : goal.returns-clause-safe
-returns-clause-safe c parts kind state ops last is evaluated formed of yes_dead reached =
-    let answer = looks c in
-    dead_states_stay_dead parts state ops last formed of (dead_where_infinite parts kind state (value_at c.args.self.now.costs) evaluated (rw is.goals at (sym answer ∙ yes_dead))) reached
+returns-clause-safe c parts kind state ops last is evaluated yes_dead reached =
+    let dead = (infinite_if_dead parts kind c.args.self.now.relaxed state c.args.self.now.costs is evaluated).0 (sym (looks c) ∙ yes_dead) in
+    dead_states_stay_dead parts state ops last is.well_formed evaluated.of_task dead reached

@@ -7,9 +7,9 @@ use Rattle.sas_task.specs.declared.contents.CostKind.{CostKind}
 use Rattle.state_step.specs.Steps.{is_applicable}
 use Rattle.std.specs.List.{filter}
 use Rattle.h_add.specs.Values.{IsEvaluated}
-use Rattle.h_ff.specs.Orders.{chosen}
+use Rattle.h_ff.specs.Orders.{chosen, ops_of}
 use Rattle.h_ff.specs.Ready.{Planner}
-use Rattle.h_ff.specs.RelaxedPlans.{AreOperatorsOf, cost_of}
+use Rattle.h_ff.specs.RelaxedPlans.{AreEachOnce, cost_of}
 use Rattle.h_ff.proofs.Ordering.{relaxed_as}
 use Rattle.h_ff.proofs.Planning.{has_plan}
 use Rattle.h_ff.proofs.ff.Ff.evaluate.Goals as goal
@@ -22,19 +22,19 @@ returns-clause-answer c task of =
     let evaluated : IsEvaluated c.args.task.now c.args.self.now.kind c.args.state.now [] c.evaluate.new.self.costs =
     c.evaluate.ensures.costs c.args.task.now c.args.self.now.kind (relaxed_as _ _ _ _ own task) of in
     let alive : IsDead c.args.task.now c.args.state.now → ⊥ = λ dead. (let k : true ≡ false = sym ((c.is_dead.ensures.exact c.args.task.now c.args.self.now.kind c.args.state.now is evaluated).1 dead) ∙ c.if-is_dead.false in absurd cc) in
-    let found : AreOperatorsOf (kept c.evaluate.new.self.relaxed.goals (chosen c.evaluate.new.self.relaxed.unaries c.order_best.new.self.order)) c.find.new.self.operators =
-    subst (λ (l : Lists). AreOperatorsOf (kept l.goals (chosen l.unaries c.order_best.new.self.order)) c.find.new.self.operators) c.relaxed.ensures
-    (subst (λ (order : List ℕ). AreOperatorsOf (kept c.relaxed.result.now.goals (chosen c.relaxed.result.now.unaries order)) c.find.new.self.operators) c.order.ensures.order c.find.ensures.operators) in
-    has_plan c.args.task.now c.args.self.now.kind c.args.state.now c.evaluate.new.self.costs c.evaluate.new.self.relaxed _ _ _ _ _ is evaluated alive
+    let found : AreEachOnce (ops_of (kept c.evaluate.new.self.relaxed.goals (chosen c.evaluate.new.self.relaxed.unaries c.order_best.new.self.order))) c.find.new.self.operators =
+    subst (λ (l : Lists). AreEachOnce (ops_of (kept l.goals (chosen l.unaries c.order_best.new.self.order))) c.find.new.self.operators) c.relaxed.ensures
+    (subst (λ (order : List ℕ). AreEachOnce (ops_of (kept c.relaxed.result.now.goals (chosen c.relaxed.result.now.unaries order))) c.find.new.self.operators) c.order.ensures.order c.find.ensures.operators) in
+    has_plan c.args.task.now c.args.self.now.kind c.args.state.now c.evaluate.new.self.costs c.evaluate.new.self.relaxed _ _ _ _ _ is evaluated (c.evaluate.ensures.numbers c.args.task.now c.args.self.now.kind (relaxed_as _ _ _ _ own task) of) alive
     (c.order_best.ensures.ordered c.args.task.now c.args.self.now.kind is of) c.order_best.ensures.none
-    (subst (λ (ops : List ℕ). AreOperatorsOf (kept c.evaluate.new.self.relaxed.goals (chosen c.evaluate.new.self.relaxed.unaries c.order_best.new.self.order)) ops) (sym c.prefer.ensures.operators) found)
+    (subst (λ (ops : List ℕ). AreEachOnce (ops_of (kept c.evaluate.new.self.relaxed.goals (chosen c.evaluate.new.self.relaxed.unaries c.order_best.new.self.order))) ops) (sym c.prefer.ensures.operators) found)
     (c.cost.ensures ∙ (ap (λ (ops : List ℕ). cost_of c.args.task.now c.self.inside.kind ops) c.operators.ensures ∙ ap (λ (k : CostKind). cost_of c.args.task.now k c.prefer.new.self.operators) kind))
     (c.prefer.ensures.preferred ∙ ap (λ (ops : List ℕ). filter (is_applicable c.args.task.now c.args.state.now) ops) (sym c.prefer.ensures.operators))
 
 pub returns-then-is_dead-clause-safe : goal.returns-then-is_dead-clause-safe
-returns-then-is_dead-clause-safe c ops last task formed of infinite leads =
+returns-then-is_dead-clause-safe c ops last task of infinite leads =
     let own : c.self.inside.add.relaxed ≡ c.args.self.now.relaxed = ap (λ (p : Planner). p.relaxed) c.self.view_is in
     let is : IsRelaxed c.args.task.now c.args.self.now.kind c.evaluate.new.self.relaxed = relaxed_as _ _ _ _ (c.evaluate.ensures.task ∙ own) task in
     let evaluated : IsEvaluated c.args.task.now c.args.self.now.kind c.args.state.now [] c.evaluate.new.self.costs =
     c.evaluate.ensures.costs c.args.task.now c.args.self.now.kind (relaxed_as _ _ _ _ own task) of in
-    c.is_dead.ensures.safe c.args.task.now c.args.self.now.kind c.args.state.now ops last is evaluated formed of c.if-is_dead.true leads
+    c.is_dead.ensures.safe c.args.task.now c.args.self.now.kind c.args.state.now ops last is evaluated c.if-is_dead.true leads

@@ -1,13 +1,13 @@
 use Rattle.std.proofs.Common.{rules}
 use Rattle.relaxed_task.specs.Relaxations.{IsRelaxed}
 use Rattle.relaxed_task.specs.SoundLaws.{relaxed_sound}
-use Rattle.relaxed_task.specs.FactLaws.{unreached_goal}
+use Rattle.relaxed_task.specs.DeadEnds.{dead_states_stay_dead}
 use Rattle.relaxed_task.proofs.relaxation.Relaxed.new.Goals as goal
 
 pub from_lists-requires : goal.from_lists-requires
 from_lists-requires c =
     let is : IsRelaxed c.args.task.now c.args.kind (record { offsets = c.from.result; facts = c.count_facts-facts.result; unaries = c.from-2.result; defaults = c.from-3.result; goals = c.in_ok-goals.goals }) = search rules in
-    relaxed_sound c.args.task.now c.args.kind _ c.parts-parts.ensures.well_formed is
+    relaxed_sound c.args.task.now c.args.kind _ is
 
 pub returns-clause-dead_ends : goal.returns-clause-dead_ends
-returns-clause-dead_ends c = λ state ops last. unreached_goal c.args.task.now state ops last c.parts-parts.ensures.well_formed
+returns-clause-dead_ends c = λ state ops last. dead_states_stay_dead c.args.task.now state ops last c.parts-parts.ensures.well_formed

@@ -1,15 +1,21 @@
--- The additive estimate.
-use Rattle.std.specs.Prelude.{◌≡◌, ℕ, zero, suc, List, [], ◌∷◌, if◌then◌else◌, nat_eq}
+-- The additive estimate over the numbers of facts.
+use Rattle.std.specs.Prelude.{ℕ, zero, suc, List, [], ◌∷◌, if◌then◌else◌, nat_eq}
+use Rattle.sas_task.specs.declared.contents.Fact.{Fact}
 use Rattle.sas_task.specs.declared.contents.Parts.{Parts}
+use Rattle.sas_task.specs.declared.contents.Variable.{Variable}
 use Rattle.lama_num.specs.declared.estimates.Estimate.{Estimate}
 use Rattle.lama_num.specs.declared.estimates.Estimate.TheVariants.{Finite, Infinite}
 use Rattle.relaxed_task.specs.declared.unary.Unary.{Unary}
 use Rattle.sas_task.specs.declared.contents.CostKind.{CostKind}
 use Rattle.lama_num.specs.Estimates.{estimate_sum}
-use Rattle.relaxed_task.specs.Estimates.{least, IsAtMost}
-use Rattle.relaxed_task.specs.Numbers.{numbers_of, distinct}
-use Rattle.relaxed_task.specs.Unaries.{unaries_of}
-use Rattle.relaxed_task.specs.Reached.{is_in_round, is_among, start_facts}
+use Rattle.relaxed_task.specs.Estimates.{least, IsLeast}
+use Rattle.relaxed_task.specs.Numbers.{number_of}
+use Rattle.relaxed_task.specs.Unaries.{numbered_unaries}
+use Rattle.relaxed_task.specs.NumberRounds.{is_in_round, is_among, start_facts}
+
+-- what facts cost, by what their numbers do
+abbrev pub costs_by : List Variable → (ℕ → Estimate) → Fact → Estimate
+costs_by variables value fact = value (number_of variables fact)
 
 -- the sum of what facts cost
 abbrev pub total : (ℕ → Estimate) → List ℕ → Estimate
@@ -34,18 +40,6 @@ abbrev pub add_round : List Unary → List ℕ → List ℕ → ℕ → ℕ → 
 add_round unaries start without zero fact = if is_in_round unaries start without zero fact then Finite 0 else Infinite
 add_round unaries start without (suc n) fact = next_costs unaries without (add_round unaries start without n) fact
 
--- the least over all rounds
-pub record IsLeast (values : ℕ → Estimate) (value : Estimate) : Type 0 where
-  pub round : ℕ
-  pub is : values round ≡ value
-  pub least : (n : ℕ) → IsAtMost value (values n)
-
 -- what a fact costs
 abbrev pub IsAdd : Parts → CostKind → List ℕ → List ℕ → ℕ → Estimate → Type 0
-IsAdd parts kind state without fact value = IsLeast (λ n. add_round (unaries_of parts kind) (start_facts parts state) without n fact) value
-
--- the sum of what the goal facts cost, each once
-pub record IsGoalValue (parts : Parts) (kind : CostKind) (state without : List ℕ) (value : Estimate) : Type 0 where
-  pub costs : ℕ → Estimate
-  pub each : (fact : ℕ) → IsAdd parts kind state without fact (costs fact)
-  pub sum : value ≡ total costs (distinct (numbers_of parts.variables parts.goal))
+IsAdd parts kind state without fact value = IsLeast (λ n. add_round (numbered_unaries parts kind) (start_facts parts state) without n fact) value
