@@ -4,7 +4,7 @@
 #[cfg(test)]
 mod additive;
 #[cfg(test)]
-mod calls;
+mod answers;
 #[cfg(test)]
 mod plain_rounds;
 #[cfg(test)]

@@ -1,11 +1,11 @@
 // The additive costs of random tasks, against plain rounds.
-use crate::calls::{additive, evaluate, evaluate_without};
+use crate::answers::{Answers, both_answers};
 use crate::plain_rounds::{UNREACHED, cost_of, plain_rounds, sum_once};
-use h_add::Add;
 use lama_num::Estimate;
 use rand_pcg::Pcg32;
 use relaxation_tasks::{below, random_task, some_facts, state, values_of};
 use sas_task::{CostKind, Fact, Task, check};
+use std::alloc::{AllocError, Global};
 use std::process::Abort;
 use std::test::Fail;
 use test_tasks::fact;
@@ -19,17 +19,15 @@ fn estimate(cost: u64) -> Estimate {
     }
 }
 
-/// Compares the costs of all facts, and of the goal.
-fn expect_costs(rt: &impl Abort, add: &Add, goal: &[Fact], costs: &[u64]) {
+/// The costs of all facts, those of one variable after those of another.
+fn estimates(alloc: Global, costs: &[u64]) -> Result<Vec<Estimate>, AllocError> {
+    let mut list = Vec::new(alloc);
     for var in 0..5 {
         for val in 0..values_of(var) {
-            let fact = fact(var, val);
-            assert_eq!(rt; add.value(fact), estimate(cost_of(costs, fact)));
+            list.push(estimate(cost_of(costs, fact(var, val))))?;
         }
     }
-    let goal = estimate(sum_once(costs, goal));
-    assert_eq!(rt; add.goal_value(), goal);
-    assert_eq!(rt; add.is_dead(), goal == Estimate::Infinite);
+    Ok(list)
 }
 
 fn kind_of(number: u32) -> CostKind {
@@ -40,33 +38,22 @@ fn kind_of(number: u32) -> CostKind {
     }
 }
 
-/// Compares the costs of a state of a task without some facts.
-fn compare_without(
+/// Compares answers with plain rounds.
+fn expect(
     rt: &(impl Abort + AllocGlobal),
-    add: &mut Add,
+    answers: &Answers,
     task: &Task,
     kind: CostKind,
     state: &[u32],
     without: &[Fact],
 ) -> Result<(), Fail> {
-    evaluate_without(add, state, without);
     let costs = plain_rounds(rt.alloc(), task, kind, state, without)?;
-    expect_costs(rt, add, &task.parts().goal, &costs);
+    let list = estimates(rt.alloc(), &costs)?;
+    let goal = estimate(sum_once(&costs, &task.parts().goal));
+    assert!(rt; answers.costs.as_slice() == list.as_slice());
+    assert!(rt; answers.goal == goal);
+    assert!(rt; answers.dead == (goal == Estimate::Infinite));
     Ok(())
-}
-
-/// Compares the costs of a state of a task. Answers whether the state is dead.
-fn compare_whole(
-    rt: &(impl Abort + AllocGlobal),
-    add: &mut Add,
-    task: &Task,
-    kind: CostKind,
-    state: &[u32],
-) -> Result<bool, Fail> {
-    evaluate(add, state);
-    let costs = plain_rounds(rt.alloc(), task, kind, state, &[])?;
-    expect_costs(rt, add, &task.parts().goal, &costs);
-    Ok(add.is_dead())
 }
 
 /// Compares the costs of a random state of a random task, with and without some facts. Answers
@@ -76,9 +63,10 @@ fn compare(rt: &(impl Abort + AllocGlobal), dice: &mut Pcg32) -> Result<bool, Fa
     let kind = kind_of(below(dice, 3));
     let state = state(rt.alloc(), dice, 2)?;
     let without = some_facts(rt.alloc(), dice, 3)?;
-    let mut add = additive(rt.alloc(), &task, kind)?;
-    compare_without(rt, &mut add, &task, kind, &state, &without)?;
-    compare_whole(rt, &mut add, &task, kind, &state)
+    let answers = both_answers(rt.alloc(), &task, kind, &state, &without)?;
+    expect(rt, &answers.0, &task, kind, &state, &without)?;
+    expect(rt, &answers.1, &task, kind, &state, &[])?;
+    Ok(answers.1.dead)
 }
 
 #[test]
@@ -90,6 +78,6 @@ fn costs_of_random_tasks(rt: HostRuntime) -> Result<(), Fail> {
             dead = dead.saturating_add(1);
         }
     }
-    assert!(rt; dead > 100 && dead < 900, "{dead} of 1000 states are dead");
+    assert!(rt; dead > 100 && dead < 900);
     Ok(())
 }

@@ -126,13 +126,6 @@ impl Add {
         value_of(self.costs.as_slice(), number)
     }
 
-    /// What a fact costs, by its number in the relaxation.
-    pub fn value_by_number(&self, number: u32) -> Estimate
-        ensures { result ≡ value_at self.now.costs number }
-    {
-        value_of(self.costs.as_slice(), number as usize)
-    }
-
     /// What the facts cost, by their numbers in the relaxation. A cost above 1,000,000,000 is infinite.
     pub fn costs(&self) -> &[u32]
         ensures costs { result.now ≡ self.now.costs }
