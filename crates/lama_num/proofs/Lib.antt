@@ -1,2 +1,3 @@
 pub mod NameLength
 pub mod Reading
+pub mod RowLaws

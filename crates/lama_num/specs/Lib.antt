@@ -5,3 +5,4 @@ pub mod Gives
 pub mod Lists
 pub mod NameLaws
 pub mod Names
+pub mod Rows

@@ -119,12 +119,6 @@ names_only base name file small is = record { only = λ other h same. name_same 
 pub numbered_same : (base : List ℕ) (m n : ℕ) → m < 2 ^ 64 → n < 2 ^ 64 → numbered_name base m ≡ numbered_name base n → m ≡ n
 numbered_same base m n hm hn same = let e : Numbered m ≡ Numbered n = name_same base (Numbered m) (Numbered n) hm hn same in cc
 
-pub child_same : (base : List ℕ) (d e : ℕ) → d < 2 ^ 64 → e < 2 ^ 64 → child_name base d ≡ child_name base e → d ≡ e
-child_same base d e hd he same = let k : ChildSingle d ≡ ChildSingle e = name_same base (ChildSingle d) (ChildSingle e) hd he same in cc
-
-pub child_numbered_same : (base : List ℕ) (d m e n : ℕ) → d < 2 ^ 64 → m < 2 ^ 64 → e < 2 ^ 64 → n < 2 ^ 64 → numbered_name (child_name base d) m ≡ numbered_name (child_name base e) n → (d ≡ e) × (m ≡ n)
-child_numbered_same base d m e n hd hm he hn same = let k : ChildNumbered d m ≡ ChildNumbered e n = name_same base (ChildNumbered d m) (ChildNumbered e n) (hd, hm) (he, hn) same in let entries : d ≡ e = cc in let plans : m ≡ n = cc in (entries, plans)
-
 pub part≢base : (base : List ℕ) → part_name base ≢ base
 part≢base base same = let k : Part ≡ Single = name_same base Part Single tt tt same in cc
 
@@ -151,6 +145,3 @@ child_numbered≢part base e m he hm same = let k : ChildNumbered e m ≡ Part =
 
 pub child_numbered≢numbered : (base : List ℕ) (e m n : ℕ) → e < 2 ^ 64 → m < 2 ^ 64 → n < 2 ^ 64 → numbered_name (child_name base e) m ≢ numbered_name base n
 child_numbered≢numbered base e m n he hm hn same = let k : ChildNumbered e m ≡ Numbered n = name_same base (ChildNumbered e m) (Numbered n) (he, hm) hn same in cc
-
-pub child_numbered≢child : (base : List ℕ) (d m e : ℕ) → d < 2 ^ 64 → m < 2 ^ 64 → e < 2 ^ 64 → numbered_name (child_name base d) m ≢ child_name base e
-child_numbered≢child base d m e hd hm he same = let k : ChildNumbered d m ≡ ChildSingle e = name_same base (ChildNumbered d m) (ChildSingle e) (hd, hm) he same in cc

@@ -9,8 +9,7 @@ mod estimates;
 mod list;
 mod memory;
 mod names;
-#[cfg(test)]
-mod tests;
+mod rows;
 
 pub use copies::{Duplicate, duplicate_items};
 pub use decimals::read_decimal;
@@ -19,3 +18,4 @@ pub use estimates::{Estimate, LARGEST_ESTIMATE};
 pub use list::Seq;
 pub use memory::NoMemory;
 pub use names::NameBuf;
+pub use rows::Rows;
