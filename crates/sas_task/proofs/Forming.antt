@@ -246,3 +246,8 @@ forms parts is =
 
 pub brought_forms : (parts : Parts) → refusal_of parts ≡ None → IsWellFormed (brought parts)
 brought_forms parts none = forms parts (is_accepted parts none)
+
+-- the same of the pieces that `accepted` puts together
+pub accepted_forms : (parts : Parts) (operators : List Operator) (rules : List Rule) → refusal_of parts ≡ None → operators ≡ map in_order parts.operators → rules ≡ filter (λ r. not (is_default parts.init r.head)) parts.rules →
+    IsWellFormed (record parts { operators = operators; rules = rules })
+accepted_forms parts operators rules none a b = rw (a, b) (brought_forms parts none)

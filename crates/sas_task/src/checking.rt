@@ -12,7 +12,7 @@ use crate::limits::{
     HIGHEST_COST, LONGEST_NAME, MOST, MOST_IN_ALL, above, costs_above, effects_above, fact_count,
     first_of, layers_above, lists_above, names_above, ranges_above, refuse, rule_conditions_above,
 };
-use crate::order::order_operators;
+use crate::order::{order_operators, put_in_order};
 use crate::refusals::{TaskError, What};
 use crate::rules::{is_default, is_layered_rule};
 use crate::task::{Task, each_costs_one};
@@ -224,6 +224,27 @@ fn refuse_others(parts: &Parts) -> Result<(), TaskError>
     refuse_unsound(parts)?;
     refuse_costs(parts)?;
     refuse_rules(parts)
+}
+
+/// The task with parts that nothing refuses: what `check` makes of them, without its tests. It is for
+/// those who made the tests as the parts came, as the reader of texts.
+pub fn accepted(parts: Parts) -> Task
+    requires { refusal_of parts ≡ None }
+    ensures { result ≡ brought parts }
+{
+    let mut operators = parts.operators.into_vec();
+    put_in_order(&mut operators);
+    let mut rules = parts.rules.into_vec();
+    keep_rules(&parts.init, &mut rules);
+    Task::new(Parts {
+        metric: parts.metric,
+        variables: parts.variables,
+        groups: parts.groups,
+        init: parts.init,
+        goal: parts.goal,
+        operators: Seq::from(operators),
+        rules: Seq::from(rules),
+    })
 }
 
 /// What is made of parts: preconditions are in order, and rules that give a default are left out.

@@ -16,7 +16,7 @@ mod refusals;
 mod rules;
 mod task;
 
-pub use checking::check;
+pub use checking::{accepted, check};
 pub use contents::{CostKind, Effect, Fact, Operator, Parts, Rule, Variable};
 pub use plans::Kept;
 pub use refusals::{TaskError, What};

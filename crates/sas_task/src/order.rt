@@ -115,3 +115,19 @@ pub fn order_operators(operators: &mut Vec<Operator>) -> Option<usize>
     let alloc = *operators.allocator();
     order_slice(alloc, operators)
 }
+
+fn put_slice_in_order(alloc: Global, operators: &mut [Operator])
+    ensures { operators.new ≡ map in_order operators.old }
+{
+    for operator in operators.iter_mut() {
+        let _prevail = order_preconditions(alloc, operator);
+    }
+}
+
+/// Brings the preconditions of operators into order.
+pub fn put_in_order(operators: &mut Vec<Operator>)
+    ensures { operators.new.items ≡ map in_order operators.old.items }
+{
+    let alloc = *operators.allocator();
+    put_slice_in_order(alloc, operators);
+}
