@@ -2,6 +2,7 @@ pub mod Acceptance
 pub mod Costs
 pub mod Facts
 pub mod Laws
+pub mod Limits
 pub mod Order
 pub mod Refusals
 pub mod Runs

@@ -1,6 +1,7 @@
 -- The order in which the preconditions of an operator stand.
 use Rattle.std.specs.Prelude.{◌≡◌, ℕ, List, [], ◌∷◌, ◌++◌, length, Bool, not, nat_eq, nat_le, take, filter, filter_map, slice_get, Option, IsTrue}
 use Rattle.std.specs.List.{list_all, enumerate_from}
+use Rattle.sas_task.specs.Limits.{most_listed}
 use Rattle.sas_task.specs.Facts.{same_fact, has_fact}
 use Rattle.sas_task.specs.declared.contents.Fact.{Fact}
 use Rattle.sas_task.specs.declared.contents.Effect.{Effect}
@@ -51,7 +52,7 @@ abbrev pub prevail_count : Operator → ℕ
 prevail_count operator = length (prevail (distinct operator.pre) operator.effects)
 
 abbrev pub has_few_prevail : Operator → Bool
-has_few_prevail operator = nat_le (prevail_count operator) 1048576
+has_few_prevail operator = nat_le (prevail_count operator) most_listed
 
 -- no two facts are values of one variable
 abbrev pub has_one_value_each : List Fact → Bool

@@ -2,6 +2,7 @@
 use Rattle.std.specs.Prelude.{ℕ, List, [], ◌∷◌, ◌++◌, length, Bool, ◌&&◌, not, nat_eq, nat_lt, map, filter, filter_map, flat_map, find, position, Option, Some, None, is_some, option_map, Result, Ok, Err, if◌then◌else◌}
 use Rattle.std.specs.List.{list_all}
 use Rattle.sas_task.specs.Costs.{is_unit_cost}
+use Rattle.sas_task.specs.Limits.{most_variables, most_facts, most_operators, most_rules, most_listed, highest_layer, highest_cost, longest_name}
 use Rattle.sas_task.specs.Order.{in_order, prevail_count}
 use Rattle.sas_task.specs.WellFormed.{is_derived, is_fact, is_default, is_layered_rule, starts, fact_count}
 use Rattle.sas_task.specs.declared.contents.Variable.{Variable}
@@ -72,19 +73,19 @@ first_cause (Some cause ∷ causes) = Some cause
 -- The causes of a refusal, in order. Of a quantity that occurs often, the first in the order of the parts that is above its limit is named; variables, operators and rules are numbered from 0.
 abbrev pub causes : Parts → List (Option TaskError)
 causes parts =
-    too_large Variables 1048576 (length parts.variables ∷ [])
-    ∷ too_large Range 1048576 (map (λ v. length v.values) parts.variables)
-    ∷ too_large Layer 1048576 (filter_map (λ v. v.layer) parts.variables)
-    ∷ too_large Facts 4194304 (fact_count parts.variables ∷ [])
-    ∷ too_large Groups 1048576 (length parts.groups ∷ [])
-    ∷ too_large GroupFacts 1048576 (map (λ group. length group) parts.groups)
-    ∷ too_large Goals 1048576 (length parts.goal ∷ [])
-    ∷ too_large Operators 4194304 (length parts.operators ∷ [])
-    ∷ too_large Conditions 1048576 (condition_counts parts)
-    ∷ too_large Effects 1048576 (map (λ o. length o.effects) parts.operators)
-    ∷ too_large Rules 4194304 (length parts.rules ∷ [])
-    ∷ too_large Cost 2147483647 (map (λ o. o.cost) parts.operators)
-    ∷ too_large Name 4096 (name_lengths parts)
+    too_large Variables most_variables (length parts.variables ∷ [])
+    ∷ too_large Range most_listed (map (λ v. length v.values) parts.variables)
+    ∷ too_large Layer highest_layer (filter_map (λ v. v.layer) parts.variables)
+    ∷ too_large Facts most_facts (fact_count parts.variables ∷ [])
+    ∷ too_large Groups most_listed (length parts.groups ∷ [])
+    ∷ too_large GroupFacts most_listed (map (λ group. length group) parts.groups)
+    ∷ too_large Goals most_listed (length parts.goal ∷ [])
+    ∷ too_large Operators most_operators (length parts.operators ∷ [])
+    ∷ too_large Conditions most_listed (condition_counts parts)
+    ∷ too_large Effects most_listed (map (λ o. length o.effects) parts.operators)
+    ∷ too_large Rules most_rules (length parts.rules ∷ [])
+    ∷ too_large Cost highest_cost (map (λ o. o.cost) parts.operators)
+    ∷ too_large Name longest_name (name_lengths parts)
     ∷ option_map (λ var. WideDerived var) (position is_wide parts.variables)
     ∷ (if is_sound parts then None else Some BadFact)
     ∷ (if not parts.metric && not (is_unit_cost parts) then Some BadCost else None)

@@ -1,6 +1,7 @@
 -- When the parts of a task are well formed.
 use Rattle.std.specs.Prelude.{◌≡◌, ℕ, ◌+◌, ◌≤◌, List, length, Bool, true, false, nat_lt, nat_le, nat_eq, ◌&&◌, not, if◌then◌else◌, slice_index, slice_get, sum_by, IsTrue, Option, Some, None, is_some}
 use Rattle.std.specs.List.{list_all, zip}
+use Rattle.sas_task.specs.Limits.{most_variables, most_facts, most_operators, most_rules, most_listed, highest_layer, highest_cost, longest_name}
 use Rattle.sas_task.specs.Order.{has_few_prevail, IsInOrder}
 use Rattle.sas_task.specs.declared.contents.Fact.{Fact}
 use Rattle.sas_task.specs.declared.contents.Variable.{Variable}
@@ -30,16 +31,16 @@ is_derived variables var = is_some (layer_of variables var)
 
 -- a name fits a line
 abbrev pub is_short : List ℕ → Bool
-is_short name = nat_le (length name) 4096
+is_short name = nat_le (length name) longest_name
 
--- a list that may be as long as the number of variables may be
+-- a list within the limit
 abbrev pub is_few : {A : Type 0} → List A → Bool
-is_few xs = nat_le (length xs) 1048576
+is_few xs = nat_le (length xs) most_listed
 
 -- a layer is within its limit, and a derived variable has two values
 abbrev pub is_layered : Option ℕ → ℕ → Bool
 is_layered None range = true
-is_layered (Some layer) range = nat_le layer 1048576 && nat_eq range 2
+is_layered (Some layer) range = nat_le layer highest_layer && nat_eq range 2
 
 abbrev pub is_variable : Variable → Bool
 is_variable v = is_short v.name && (is_layered v.layer (length v.values) && (nat_lt 0 (length v.values) && (is_few v.values && list_all is_short v.values)))
@@ -57,14 +58,14 @@ is_effect variables effect = are_facts variables effect.conds && (is_fact variab
 
 -- Each effect may stand for one of the preconditions; of the others, the prevail conditions, there are few.
 abbrev pub has_few_conditions : Operator → Bool
-has_few_conditions operator = nat_le (length operator.pre) (1048576 + length operator.effects)
+has_few_conditions operator = nat_le (length operator.pre) (most_listed + length operator.effects)
 
 abbrev pub is_operator : List Variable → Operator → Bool
 is_operator variables operator =
     is_short operator.name
     && (has_few_conditions operator
     && (list_all (is_fact variables) operator.pre
-    && (is_few operator.effects && (list_all (is_effect variables) operator.effects && nat_le operator.cost 2147483647))))
+    && (is_few operator.effects && (list_all (is_effect variables) operator.effects && nat_le operator.cost highest_cost))))
 
 -- one initial value for each variable, below its range
 abbrev pub starts : List Variable → List ℕ → Bool
@@ -97,18 +98,18 @@ abbrev pub fact_count : List Variable → ℕ
 fact_count variables = sum_by (λ v. length v.values) variables
 
 pub record IsWellFormed (parts : Parts) : Type 0 where
-  pub few_variables : IsTrue (is_few parts.variables)
+  pub few_variables : IsTrue (nat_le (length parts.variables) most_variables)
   pub variables : IsTrue (list_all is_variable parts.variables)
-  pub few_facts : fact_count parts.variables ≤ 4194304
+  pub few_facts : fact_count parts.variables ≤ most_facts
   pub few_groups : IsTrue (is_few parts.groups)
   pub groups : IsTrue (list_all (are_facts parts.variables) parts.groups)
   pub init : IsTrue (starts parts.variables parts.init)
   pub goal : IsTrue (are_facts parts.variables parts.goal)
-  pub few_operators : length parts.operators ≤ 4194304
+  pub few_operators : length parts.operators ≤ most_operators
   pub operators : IsTrue (list_all (is_operator parts.variables) parts.operators)
   pub conditions : IsTrue (list_all has_few_prevail parts.operators)
   pub order : (op : ℕ) (operator : Operator) → slice_get parts.operators op ≡ Some operator → IsInOrder operator
   -- without a metric every operator costs 1
   pub costs : parts.metric ≡ false → IsTrue (list_all (λ o. nat_eq o.cost 1) parts.operators)
-  pub few_rules : length parts.rules ≤ 4194304
+  pub few_rules : length parts.rules ≤ most_rules
   pub rules : IsTrue (list_all (is_rule parts.variables parts.init) parts.rules)

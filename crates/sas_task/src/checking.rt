@@ -1,6 +1,7 @@
 // The check of a task's parts.
 ghost use Rattle.std.specs.Prelude.{◌≡◌, ◌≤◌, ◌<◌, ◌&&◌, length, option_map, take, drop, filter, nat_lt, not, position, IfSome, None, Some, if◌then◌else◌};
 ghost use Rattle.std.specs.List.{list_all, zip};
+ghost use Rattle.sas_task.specs.Limits.{most_variables, most_rules, most_listed};
 ghost use Rattle.sas_task.specs.WellFormed.{is_fact as fact_test, starts, is_default as default_test};
 ghost use Rattle.sas_task.specs.Costs.{is_unit_cost};
 ghost use Rattle.sas_task.specs.Refusals.{is_sound_effect as sound_effect, is_sound_operator as sound_operator, is_sound_rule as sound_rule, is_sound as sound, is_wide as wide, is_good_rule as good_rule, causes, first_cause, too_large, condition_counts, refusal_of, brought, unless};
@@ -9,8 +10,9 @@ ghost use Rattle.sas_task.specs.declared.refusals.What.TheVariants.{Conditions};
 use crate::conditions::{are_facts, is_derived, is_fact};
 use crate::contents::{Effect, Fact, Operator, Parts, Rule, Variable};
 use crate::limits::{
-    HIGHEST_COST, LONGEST_NAME, MOST, MOST_IN_ALL, above, costs_above, effects_above, fact_count,
-    first_of, layers_above, lists_above, names_above, ranges_above, refuse, rule_conditions_above,
+    MOST_FACTS, MOST_LISTED, MOST_OPERATORS, MOST_RULES, MOST_VARIABLES, above, costs_above,
+    effects_above, fact_count, first_of, layers_above, lists_above, names_above, ranges_above,
+    refuse, rule_conditions_above,
 };
 use crate::order::{order_operators, put_in_order};
 use crate::refusals::{TaskError, What};
@@ -24,17 +26,20 @@ use lama_num::Seq;
 fn refuse_many(parts: &Parts) -> Result<(), TaskError>
     ensures { result ≡ unless (first_cause (take 8 (causes parts.now))) tt }
 {
-    refuse(What::Variables, above(MOST, parts.variables.len()))?;
+    refuse(
+        What::Variables,
+        above(MOST_VARIABLES, parts.variables.len()),
+    )?;
     refuse(What::Range, ranges_above(&parts.variables))?;
     refuse(What::Layer, layers_above(&parts.variables))?;
+    refuse(What::Facts, above(MOST_FACTS, fact_count(&parts.variables)))?;
+    refuse(What::Groups, above(MOST_LISTED, parts.groups.len()))?;
+    refuse(What::GroupFacts, lists_above(&parts.groups, MOST_LISTED))?;
+    refuse(What::Goals, above(MOST_LISTED, parts.goal.len()))?;
     refuse(
-        What::Facts,
-        above(MOST_IN_ALL, fact_count(&parts.variables)),
-    )?;
-    refuse(What::Groups, above(MOST, parts.groups.len()))?;
-    refuse(What::GroupFacts, lists_above(&parts.groups, MOST))?;
-    refuse(What::Goals, above(MOST, parts.goal.len()))?;
-    refuse(What::Operators, above(MOST_IN_ALL, parts.operators.len()))
+        What::Operators,
+        above(MOST_OPERATORS, parts.operators.len()),
+    )
 }
 
 /// Refuses what there is too much of, from the effects on.
@@ -42,7 +47,7 @@ fn refuse_much(parts: &Parts) -> Result<(), TaskError>
     ensures { result ≡ unless (first_cause (take 4 (drop 9 (causes parts.now)))) tt }
 {
     refuse(What::Effects, effects_above(&parts.operators))?;
-    refuse(What::Rules, above(MOST_IN_ALL, parts.rules.len()))?;
+    refuse(What::Rules, above(MOST_RULES, parts.rules.len()))?;
     refuse(What::Cost, costs_above(&parts.operators))?;
     refuse(What::Name, names_above(&parts.variables, &parts.operators))
 }
@@ -63,7 +68,7 @@ fn first_wide(variables: &[Variable]) -> Option<usize>
 }
 
 fn refuse_wide(variables: &[Variable]) -> Result<(), TaskError>
-    requires { length variables.now ≤ 1048576 }
+    requires { length variables.now ≤ most_variables }
     ensures { result ≡ unless (option_map (λ var. TaskError.WideDerived var) (position wide variables.now)) tt }
 {
     match first_wide(variables) {
@@ -199,7 +204,7 @@ fn first_bad_rule(variables: &[Variable], init: &[u32], rules: &[Rule]) -> Optio
 }
 
 fn refuse_rules(parts: &Parts) -> Result<(), TaskError>
-    requires { length parts.now.rules ≤ 4194304 }
+    requires { length parts.now.rules ≤ most_rules }
     ensures { result ≡ unless (option_map (λ rule. TaskError.BadRule rule) (position (λ r. not (good_rule parts.now.variables parts.now.init r)) parts.now.rules)) tt }
 {
     match first_bad_rule(&parts.variables, &parts.init, &parts.rules) {
@@ -216,7 +221,7 @@ fn keep_rules(init: &[u32], rules: &mut Vec<Rule>)
 
 /// Refuses parts for any cause from the number of effects on.
 fn refuse_others(parts: &Parts) -> Result<(), TaskError>
-    requires { length parts.now.variables ≤ 1048576 }
+    requires { length parts.now.variables ≤ most_variables }
     ensures { result ≡ unless (first_cause (drop 9 (causes parts.now))) tt }
 {
     refuse_much(parts)?;
@@ -251,7 +256,7 @@ pub fn accepted(parts: Parts) -> Task
 /// Refuses a number of conditions that is above the limit.
 #[tactic(auto, using(crate::proofs::Above::above_append))]
 fn bring(parts: Parts) -> Result<Parts, TaskError>
-    ensures { result ≡ unless (too_large Conditions 1048576 (condition_counts parts)) (brought parts) }
+    ensures { result ≡ unless (too_large Conditions most_listed (condition_counts parts)) (brought parts) }
 {
     let mut operators = parts.operators.into_vec();
     let conditions = order_operators(&mut operators);

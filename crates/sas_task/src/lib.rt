@@ -18,6 +18,10 @@ mod task;
 
 pub use checking::{accepted, check};
 pub use contents::{CostKind, Effect, Fact, Operator, Parts, Rule, Variable};
+pub use limits::{
+    HIGHEST_COST, HIGHEST_LAYER, LONGEST_NAME, MOST_FACTS, MOST_LISTED, MOST_OPERATORS, MOST_RULES,
+    MOST_VARIABLES,
+};
 pub use plans::Kept;
 pub use refusals::{TaskError, What};
 pub use task::Task;

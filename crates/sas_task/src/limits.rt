@@ -1,6 +1,7 @@
 // The first of some quantities that is above its limit.
 ghost use Rattle.std.specs.Prelude.{◌≡◌, ◌≤◌, ◌<◌, ◌∷◌, ◌++◌, [], None, length, map, flat_map, filter_map, option_map};
 ghost use Rattle.std.specs.Option.{option_or};
+ghost use Rattle.sas_task.specs.Limits.{most_variables, most_listed, highest_layer, highest_cost, longest_name};
 ghost use Rattle.sas_task.specs.WellFormed.{fact_count as the_fact_count};
 ghost use Rattle.sas_task.specs.Refusals.{above as the_above, names_of, unless};
 
@@ -8,15 +9,24 @@ use crate::contents::{Effect, Operator, Rule, Variable};
 use crate::refusals::{TaskError, What};
 use lama_num::Seq;
 
-/// The most variables, values of a variable, mutex groups, effects, and facts of one list; and the
-/// highest layer.
-pub const MOST: usize = 1_048_576;
+pub const MOST_VARIABLES: usize = 1_048_576;
 
-/// The most operators, rules, and facts of all variables.
-pub const MOST_IN_ALL: usize = 4_194_304;
+/// The most values of all variables together.
+pub const MOST_FACTS: usize = 4_194_304;
 
+pub const MOST_OPERATORS: usize = 4_194_304;
+
+pub const MOST_RULES: usize = 4_194_304;
+
+/// The most values of one variable, mutex groups, effects of one operator, and facts of one list.
+pub const MOST_LISTED: usize = 1_048_576;
+
+pub const HIGHEST_LAYER: u32 = 1_048_576;
+
+/// The highest cost of an operator.
 pub const HIGHEST_COST: u32 = 2_147_483_647;
 
+/// The most bytes of a name.
 pub const LONGEST_NAME: usize = 4096;
 
 /// Refuses a quantity that has a count above its limit.
@@ -46,10 +56,10 @@ pub fn first_of(first: Option<usize>, second: Option<usize>) -> Option<usize>
 }
 
 pub fn ranges_above(variables: &[Variable]) -> Option<usize>
-    ensures { result ≡ the_above 1048576 (map (λ v. length v.values) variables.now) }
+    ensures { result ≡ the_above most_listed (map (λ v. length v.values) variables.now) }
 {
     for variable in variables {
-        if variable.values.len() > MOST {
+        if variable.values.len() > MOST_LISTED {
             return Some(variable.values.len());
         }
     }
@@ -57,11 +67,11 @@ pub fn ranges_above(variables: &[Variable]) -> Option<usize>
 }
 
 pub fn layers_above(variables: &[Variable]) -> Option<usize>
-    ensures { result ≡ the_above 1048576 (filter_map (λ v. v.layer) variables.now) }
+    ensures { result ≡ the_above highest_layer (filter_map (λ v. v.layer) variables.now) }
 {
     for variable in variables {
         match variable.layer {
-            Some(layer) if layer as usize > MOST => return Some(layer as usize),
+            Some(layer) if layer > HIGHEST_LAYER => return Some(layer as usize),
             _ => {}
         }
     }
@@ -70,8 +80,8 @@ pub fn layers_above(variables: &[Variable]) -> Option<usize>
 
 /// The number of facts, of variables that are few and have few values each.
 pub fn fact_count(variables: &[Variable]) -> usize
-    requires few { length variables.now ≤ 1048576 }
-    requires small { the_above 1048576 (map (λ v. length v.values) variables.now) ≡ None }
+    requires few { length variables.now ≤ most_variables }
+    requires small { the_above most_listed (map (λ v. length v.values) variables.now) ≡ None }
     ensures { result ≡ the_fact_count variables.now }
 {
     let mut facts = 0;
@@ -94,10 +104,10 @@ pub fn lists_above<T>(lists: &[Seq<T>], most: usize) -> Option<usize>
 }
 
 pub fn effect_conditions_above(effects: &[Effect]) -> Option<usize>
-    ensures { result ≡ the_above 1048576 (map (λ e. length e.conds) effects.now) }
+    ensures { result ≡ the_above most_listed (map (λ e. length e.conds) effects.now) }
 {
     for effect in effects {
-        if effect.conds.len() > MOST {
+        if effect.conds.len() > MOST_LISTED {
             return Some(effect.conds.len());
         }
     }
@@ -105,10 +115,10 @@ pub fn effect_conditions_above(effects: &[Effect]) -> Option<usize>
 }
 
 pub fn rule_conditions_above(rules: &[Rule]) -> Option<usize>
-    ensures { result ≡ the_above 1048576 (map (λ r. length r.conds) rules.now) }
+    ensures { result ≡ the_above most_listed (map (λ r. length r.conds) rules.now) }
 {
     for rule in rules {
-        if rule.conds.len() > MOST {
+        if rule.conds.len() > MOST_LISTED {
             return Some(rule.conds.len());
         }
     }
@@ -116,10 +126,10 @@ pub fn rule_conditions_above(rules: &[Rule]) -> Option<usize>
 }
 
 pub fn effects_above(operators: &[Operator]) -> Option<usize>
-    ensures { result ≡ the_above 1048576 (map (λ o. length o.effects) operators.now) }
+    ensures { result ≡ the_above most_listed (map (λ o. length o.effects) operators.now) }
 {
     for operator in operators {
-        if operator.effects.len() > MOST {
+        if operator.effects.len() > MOST_LISTED {
             return Some(operator.effects.len());
         }
     }
@@ -127,7 +137,7 @@ pub fn effects_above(operators: &[Operator]) -> Option<usize>
 }
 
 pub fn costs_above(operators: &[Operator]) -> Option<usize>
-    ensures { result ≡ the_above 2147483647 (map (λ o. o.cost) operators.now) }
+    ensures { result ≡ the_above highest_cost (map (λ o. o.cost) operators.now) }
 {
     for operator in operators {
         if operator.cost > HIGHEST_COST {
@@ -138,7 +148,7 @@ pub fn costs_above(operators: &[Operator]) -> Option<usize>
 }
 
 fn variable_name_above(variable: &Variable) -> Option<usize>
-    ensures { result ≡ the_above 4096 (names_of variable.now) }
+    ensures { result ≡ the_above longest_name (names_of variable.now) }
 {
     if variable.name.len() > LONGEST_NAME {
         return Some(variable.name.len());
@@ -147,7 +157,7 @@ fn variable_name_above(variable: &Variable) -> Option<usize>
 }
 
 fn variable_names_above(variables: &[Variable]) -> Option<usize>
-    ensures { result ≡ the_above 4096 (flat_map names_of variables.now) }
+    ensures { result ≡ the_above longest_name (flat_map names_of variables.now) }
 {
     for variable in variables {
         let longest = variable_name_above(variable);
@@ -159,7 +169,7 @@ fn variable_names_above(variables: &[Variable]) -> Option<usize>
 }
 
 fn operator_names_above(operators: &[Operator]) -> Option<usize>
-    ensures { result ≡ the_above 4096 (map (λ o. length o.name) operators.now) }
+    ensures { result ≡ the_above longest_name (map (λ o. length o.name) operators.now) }
 {
     for operator in operators {
         if operator.name.len() > LONGEST_NAME {
@@ -172,7 +182,7 @@ fn operator_names_above(operators: &[Operator]) -> Option<usize>
 /// The first length of a name that is above the limit.
 #[tactic(auto, using(crate::proofs::Above::above_append))]
 pub fn names_above(variables: &[Variable], operators: &[Operator]) -> Option<usize>
-    ensures { result ≡ the_above 4096 (flat_map names_of variables.now ++ map (λ o. length o.name) operators.now) }
+    ensures { result ≡ the_above longest_name (flat_map names_of variables.now ++ map (λ o. length o.name) operators.now) }
 {
     first_of(
         variable_names_above(variables),

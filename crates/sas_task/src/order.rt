@@ -1,11 +1,12 @@
 // The order of an operator's preconditions.
 ghost use Rattle.std.specs.Prelude.{◌≡◌, ◌≤◌, ◌<◌, ◌+◌, ◌++◌, length, take, drop, map, flat_map, position, nat_eq, IfSome, None};
+ghost use Rattle.sas_task.specs.Limits.{most_listed};
 ghost use Rattle.sas_task.specs.Order.{distinct, prevail, arranged, in_order, prevail_count};
 ghost use Rattle.sas_task.specs.Refusals.{above, conditions_of};
 
 use crate::contents::{Effect, Fact, Operator};
 use crate::facts::has;
-use crate::limits::{MOST, effect_conditions_above};
+use crate::limits::{MOST_LISTED, effect_conditions_above};
 use lama_num::Seq;
 use std::alloc::Global;
 use std::mem;
@@ -84,17 +85,17 @@ fn order_preconditions(alloc: Global, operator: &mut Operator) -> usize
 /// conditions that is above the limit.
 fn order_operator(alloc: Global, operator: &mut Operator) -> Option<usize>
     ensures order { operator.new ≡ in_order operator.old }
-    ensures count { result ≡ above 1048576 (conditions_of operator.old) }
+    ensures count { result ≡ above most_listed (conditions_of operator.old) }
 {
     let prevail = order_preconditions(alloc, operator);
-    if prevail > MOST {
+    if prevail > MOST_LISTED {
         return Some(prevail);
     }
     effect_conditions_above(&operator.effects)
 }
 
 fn order_slice(alloc: Global, operators: &mut [Operator]) -> Option<usize>
-    ensures count { result ≡ above 1048576 (flat_map conditions_of operators.old) }
+    ensures count { result ≡ above most_listed (flat_map conditions_of operators.old) }
     ensures order { result ≡ None → operators.new ≡ map in_order operators.old }
 {
     for operator in operators.iter_mut() {
@@ -109,7 +110,7 @@ fn order_slice(alloc: Global, operators: &mut [Operator]) -> Option<usize>
 /// Brings the preconditions of operators into order, up to the first operator that has a number of
 /// conditions above the limit, and finds this number.
 pub fn order_operators(operators: &mut Vec<Operator>) -> Option<usize>
-    ensures count { result ≡ above 1048576 (flat_map conditions_of operators.old.items) }
+    ensures count { result ≡ above most_listed (flat_map conditions_of operators.old.items) }
     ensures order { result ≡ None → operators.new.items ≡ map in_order operators.old.items }
 {
     let alloc = *operators.allocator();

@@ -1,6 +1,7 @@
 // The task type, and what it says of its operators and facts.
 ghost use Rattle.std.specs.Prelude.{◌≡◌, ◌≤◌, Option, List, ℕ, length, nat_eq, option_map, option_and_then};
 ghost use Rattle.std.specs.List.{list_all};
+ghost use Rattle.sas_task.specs.Limits.{highest_cost};
 ghost use Rattle.sas_task.specs.WellFormed.{IsWellFormed};
 ghost use Rattle.sas_task.specs.Runs.{cost_at};
 ghost use Rattle.sas_task.specs.Costs.{is_unit_cost as unit_cost_test, adjusted_cost as the_adjusted_cost};
@@ -63,7 +64,7 @@ impl Task {
 
     fn cost(&self, op: u32) -> u32
         ensures cost { result ≡ cost_at self.now op }
-        ensures small { result ≤ 2147483647 }
+        ensures small { result ≤ highest_cost }
     {
         match self.parts.operators.as_slice().get(op as usize) {
             Some(operator) => operator.cost,
