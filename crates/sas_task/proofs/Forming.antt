@@ -16,45 +16,8 @@ use Rattle.sas_task.specs.declared.contents.Effect.{Effect}
 use Rattle.sas_task.specs.declared.contents.Operator.{Operator}
 use Rattle.sas_task.specs.declared.contents.Rule.{Rule}
 use Rattle.sas_task.specs.declared.contents.Parts.{Parts}
+use Rattle.sas_task.specs.Tests.{le-test, test-le, one-within, and_true, all-two, all-one, all-and, within-flat_map, within-map}
 use Rattle.sas_task.proofs.Permuting.{all-ordered, is_in_order, few_prevail, length-ordered}
-
--- tests of lists
-
-le-test : (n most : ℕ) → nat_le n most ≡ true → n ≤ most
-le-test n most is = grind (arith, nat_tests, is)
-
-test-le : (n most : ℕ) → n ≤ most → nat_le n most ≡ true
-test-le n most le = grind (arith, nat_tests, le)
-
-one-within : (n most : ℕ) → within most (n ∷ []) ≡ true → nat_le n most ≡ true
-one-within n most all = (both (nat_le n most) true all).0
-
-and_true : (a b : Bool) → a ≡ true → b ≡ true → (a && b) ≡ true
-and_true true b x y = y
-and_true false b x y = x
-
--- a test that follows from two others
-all-two : {X : Type 0} (p q r : X → Bool) (xs : List X) → ((x : X) → p x ≡ true → q x ≡ true → r x ≡ true) → list_all p xs ≡ true → list_all q xs ≡ true → list_all r xs ≡ true
-all-two p q r [] step ps qs = refl
-all-two p q r (x ∷ xs) step ps qs =
-    let a = both (p x) (list_all p xs) ps in
-    let b = both (q x) (list_all q xs) qs in
-    and_true (r x) (list_all r xs) (step x a.0 b.0) (all-two p q r xs step a.1 b.1)
-
-all-one : {X : Type 0} (p r : X → Bool) (xs : List X) → ((x : X) → p x ≡ true → r x ≡ true) → list_all p xs ≡ true → list_all r xs ≡ true
-all-one p r xs step ps = all-two p p r xs (λ x a b. step x a) ps ps
-
-all-and : {X : Type 0} (p q : X → Bool) (xs : List X) → list_all p xs ≡ true → list_all q xs ≡ true → list_all (λ x. p x && q x) xs ≡ true
-all-and p q xs ps qs = all-two p q (λ x. p x && q x) xs (λ x a b. and_true (p x) (q x) a b) ps qs
-
-within-flat_map : {X : Type 0} (most : ℕ) (f : X → List ℕ) (xs : List X) → within most (flat_map f xs) ≡ true → list_all (λ x. within most (f x)) xs ≡ true
-within-flat_map most f [] all = refl
-within-flat_map most f (x ∷ xs) all =
-    let parts = both (within most (f x)) (within most (flat_map f xs)) (sym (list_all-append (λ n. nat_le n most) (f x) (flat_map f xs)) ∙ all) in
-    and_true (within most (f x)) (list_all (λ x. within most (f x)) xs) parts.0 (within-flat_map most f xs parts.1)
-
-within-map : {X : Type 0} (most : ℕ) (f : X → ℕ) (xs : List X) → within most (map f xs) ≡ true → list_all (λ x. nat_le (f x) most) xs ≡ true
-within-map most f xs all = sym (list_all-map (λ n. nat_le n most) f xs) ∙ all
 
 -- variables
 

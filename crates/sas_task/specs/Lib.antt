@@ -1,4 +1,6 @@
 pub mod Acceptance
+pub mod Admissible
+pub mod Admission
 pub mod Costs
 pub mod Facts
 pub mod Laws
@@ -7,4 +9,5 @@ pub mod Order
 pub mod Refusals
 pub mod Runs
 pub mod States
+pub mod Tests
 pub mod WellFormed

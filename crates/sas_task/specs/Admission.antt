@@ -1,0 +1,167 @@
+-- Laws of parts that nothing refuses.
+use Rattle.std.specs.Prelude.{◌≡◌, ℕ, ◌+◌, ◌≤◌, List, [], ◌∷◌, ◌++◌, length, Bool, true, false, ◌&&◌, not, nat_eq, nat_lt, nat_le, map, filter_map, flat_map, Option, Some, None, is_some}
+use Rattle.std.proofs.Common.{arith, refl, sym, ap, ◌∙◌}
+use Rattle.std.specs.List.{list_all, cons_option}
+use Rattle.lama_num.specs.Lists.{both}
+use Rattle.sas_task.specs.Limits.{most_variables, most_facts, most_operators, most_rules, most_listed, highest_layer, highest_cost, longest_name}
+use Rattle.sas_task.specs.WellFormed.{is_derived, is_short, is_few, is_layered, is_variable, is_fact, are_facts, is_effect, starts, fact_count}
+use Rattle.sas_task.specs.Admissible.{is_admissible_operator, is_admissible_rule, IsAdmissible}
+use Rattle.sas_task.specs.Costs.{is_unit_cost}
+use Rattle.sas_task.specs.Order.{prevail_count, has_few_prevail}
+use Rattle.sas_task.specs.Refusals.{conditions_of, names_of, is_wide, is_sound_effect, is_sound_operator, is_sound_rule, is_sound, is_good_rule, refusal_of}
+use Rattle.sas_task.specs.Acceptance.{within, IsAccepted, accepted}
+use Rattle.sas_task.specs.declared.contents.Fact.{Fact}
+use Rattle.sas_task.specs.declared.contents.Variable.{Variable}
+use Rattle.sas_task.specs.declared.contents.Effect.{Effect}
+use Rattle.sas_task.specs.declared.contents.Operator.{Operator}
+use Rattle.sas_task.specs.declared.contents.Rule.{Rule}
+use Rattle.sas_task.specs.declared.contents.Parts.{Parts}
+use Rattle.sas_task.specs.Tests.{and_true, test-le, all-one, within-one, flat_map-within, map-within, within-both}
+
+-- variables
+
+record PassesVariable (v : Variable) : Type 0 where
+  name : is_short v.name ≡ true
+  layer : is_layered v.layer (length v.values) ≡ true
+  some : nat_lt 0 (length v.values) ≡ true
+  few : is_few v.values ≡ true
+  names : list_all is_short v.values ≡ true
+
+passes_variable : (v : Variable) → is_variable v ≡ true → PassesVariable v
+passes_variable v all =
+    let layer = is_layered v.layer (length v.values) in
+    let some = nat_lt 0 (length v.values) in
+    let names = list_all is_short v.values in
+    let a = both (is_short v.name) (layer && (some && (is_few v.values && names))) all in
+    let b = both layer (some && (is_few v.values && names)) a.1 in
+    let c = both some (is_few v.values && names) b.1 in
+    let d = both (is_few v.values) names c.1 in
+    record { name = a.0; layer = b.0; some = c.0; few = d.0; names = d.1 }
+
+not_wide : (layer : Option ℕ) (range : ℕ) → is_layered layer range ≡ true → not (is_some layer && not (nat_eq range 2)) ≡ true
+not_wide None range is = refl
+not_wide (Some layer) range is = let two = (both (nat_le layer highest_layer) (nat_eq range 2) is).1 in rw two refl
+
+low_layers : (variables : List Variable) → list_all is_variable variables ≡ true → within highest_layer (filter_map (λ v. v.layer) variables) ≡ true
+low_layers [] all = refl
+low_layers (v ∷ variables) all =
+    let parts = both (is_variable v) (list_all is_variable variables) all in
+    one v.layer (filter_map (λ v. v.layer) variables) (length v.values) (passes_variable v parts.0).layer (low_layers variables parts.1)
+  where
+    one : (layer : Option ℕ) (rest : List ℕ) (range : ℕ) → is_layered layer range ≡ true → within highest_layer rest ≡ true → within highest_layer (cons_option layer rest) ≡ true
+    one None rest range is all = all
+    one (Some layer) rest range is all = and_true (nat_le layer highest_layer) (within highest_layer rest) (both (nat_le layer highest_layer) (nat_eq range 2) is).0 all
+
+variable_names : (v : Variable) → is_variable v ≡ true → within longest_name (names_of v) ≡ true
+variable_names v is =
+    let passes = passes_variable v is in
+    and_true (is_short v.name) (within longest_name (map (λ name. length name) v.values)) passes.name (map-within longest_name (λ name. length name) v.values passes.names)
+
+-- operators
+
+effect_sound : (variables : List Variable) (e : Effect) → is_effect variables e ≡ true → is_sound_effect variables e ≡ true
+effect_sound variables e is =
+    let parts = both (are_facts variables e.conds) (is_fact variables e.fact && not (is_derived variables e.fact.var)) is in
+    and_true (list_all (is_fact variables) e.conds) _ (both (is_few e.conds) (list_all (is_fact variables) e.conds) parts.0).1 parts.1
+
+effect_few : (variables : List Variable) (e : Effect) → is_effect variables e ≡ true → nat_le (length e.conds) most_listed ≡ true
+effect_few variables e is =
+    (both (is_few e.conds) (list_all (is_fact variables) e.conds) (both (are_facts variables e.conds) (is_fact variables e.fact && not (is_derived variables e.fact.var)) is).0).0
+
+record PassesOperator (variables : List Variable) (o : Operator) : Type 0 where
+  name : is_short o.name ≡ true
+  prevail : has_few_prevail o ≡ true
+  pre : list_all (is_fact variables) o.pre ≡ true
+  few : is_few o.effects ≡ true
+  effects : list_all (is_effect variables) o.effects ≡ true
+  cost : nat_le o.cost highest_cost ≡ true
+
+passes_operator : (variables : List Variable) (o : Operator) → is_admissible_operator variables o ≡ true → PassesOperator variables o
+passes_operator variables o all =
+    let pre = list_all (is_fact variables) o.pre in
+    let effects = list_all (is_effect variables) o.effects in
+    let cost = nat_le o.cost highest_cost in
+    let a = both (is_short o.name) (has_few_prevail o && (pre && (is_few o.effects && (effects && cost)))) all in
+    let b = both (has_few_prevail o) (pre && (is_few o.effects && (effects && cost))) a.1 in
+    let c = both pre (is_few o.effects && (effects && cost)) b.1 in
+    let d = both (is_few o.effects) (effects && cost) c.1 in
+    let e = both effects cost d.1 in
+    record { name = a.0; prevail = b.0; pre = c.0; few = d.0; effects = e.0; cost = e.1 }
+
+operator_conditions : (variables : List Variable) (o : Operator) → is_admissible_operator variables o ≡ true → within most_listed (conditions_of o) ≡ true
+operator_conditions variables o is =
+    let passes = passes_operator variables o is in
+    and_true (has_few_prevail o) (within most_listed (map (λ e. length e.conds) o.effects)) passes.prevail
+    (map-within most_listed (λ e. length e.conds) o.effects (all-one (is_effect variables) (λ e. nat_le (length e.conds) most_listed) o.effects (effect_few variables) passes.effects))
+
+operator_sound : (variables : List Variable) (o : Operator) → is_admissible_operator variables o ≡ true → is_sound_operator variables o ≡ true
+operator_sound variables o is =
+    let passes = passes_operator variables o is in
+    and_true (list_all (is_fact variables) o.pre) _ passes.pre (all-one (is_effect variables) (is_sound_effect variables) o.effects (effect_sound variables) passes.effects)
+
+-- rules
+
+record PassesRule (variables : List Variable) (init : List ℕ) (r : Rule) : Type 0 where
+  few : nat_le (length r.conds) most_listed ≡ true
+  sound : is_sound_rule variables r ≡ true
+  good : is_good_rule variables init r ≡ true
+
+passes_rule : (variables : List Variable) (init : List ℕ) (r : Rule) → is_admissible_rule variables init r ≡ true → PassesRule variables init r
+passes_rule variables init r all =
+    let a = both (are_facts variables r.conds) (is_fact variables r.head && is_good_rule variables init r) all in
+    let b = both (is_fact variables r.head) (is_good_rule variables init r) a.1 in
+    let c = both (is_few r.conds) (list_all (is_fact variables) r.conds) a.0 in
+    record { few = c.0; sound = and_true (list_all (is_fact variables) r.conds) (is_fact variables r.head) c.1 b.0; good = b.1 }
+
+-- all together
+
+few_facts : (variables : List Variable) (facts : List Fact) → are_facts variables facts ≡ true → nat_le (length facts) most_listed ≡ true
+few_facts variables facts is = (both (is_few facts) (list_all (is_fact variables) facts) is).0
+
+all_facts : (variables : List Variable) (facts : List Fact) → are_facts variables facts ≡ true → list_all (is_fact variables) facts ≡ true
+all_facts variables facts is = (both (is_few facts) (list_all (is_fact variables) facts) is).1
+
+all_sound : (parts : Parts) → IsAdmissible parts → is_sound parts ≡ true
+all_sound parts is =
+    and_true (list_all (λ v. nat_lt 0 (length v.values)) parts.variables) _ (all-one is_variable (λ v. nat_lt 0 (length v.values)) parts.variables (λ v a. (passes_variable v a).some) is.variables)
+    (and_true (list_all (λ group. list_all (is_fact parts.variables) group) parts.groups) _ (all-one (are_facts parts.variables) (λ group. list_all (is_fact parts.variables) group) parts.groups (all_facts parts.variables) is.groups)
+    (and_true (starts parts.variables parts.init) _ is.init
+    (and_true (list_all (is_fact parts.variables) parts.goal) _ (all_facts parts.variables parts.goal is.goal)
+    (and_true (list_all (is_sound_operator parts.variables) parts.operators) _ (all-one (is_admissible_operator parts.variables) (is_sound_operator parts.variables) parts.operators (operator_sound parts.variables) is.operators)
+    (all-one (is_admissible_rule parts.variables parts.init) (is_sound_rule parts.variables) parts.rules (λ r a. (passes_rule parts.variables parts.init r a).sound) is.rules)))))
+
+unit : (metric unit_cost : Bool) → (metric ≡ false → unit_cost ≡ true) → (not metric && not unit_cost) ≡ false
+unit true unit_cost costs = refl
+unit false unit_cost costs = rw (costs refl) refl
+
+tests_pass : (parts : Parts) → IsAdmissible parts → IsAccepted parts
+tests_pass parts is =
+    let admissible = is_admissible_operator parts.variables in
+    let good = is_admissible_rule parts.variables parts.init in
+    record {
+      variables = within-one (length parts.variables) most_variables is.few_variables;
+      ranges = map-within most_listed (λ v. length v.values) parts.variables (all-one is_variable (λ v. is_few v.values) parts.variables (λ v a. (passes_variable v a).few) is.variables);
+      layers = low_layers parts.variables is.variables;
+      facts = within-one (fact_count parts.variables) most_facts (test-le (fact_count parts.variables) most_facts is.few_facts);
+      groups = within-one (length parts.groups) most_listed is.few_groups;
+      group_facts = map-within most_listed (λ group. length group) parts.groups (all-one (are_facts parts.variables) (λ group. is_few group) parts.groups (few_facts parts.variables) is.groups);
+      goals = within-one (length parts.goal) most_listed (few_facts parts.variables parts.goal is.goal);
+      operators = within-one (length parts.operators) most_operators (test-le (length parts.operators) most_operators is.few_operators);
+      conditions = within-both most_listed (flat_map conditions_of parts.operators) (map (λ r. length r.conds) parts.rules)
+          (flat_map-within most_listed conditions_of parts.operators (all-one admissible (λ o. within most_listed (conditions_of o)) parts.operators (operator_conditions parts.variables) is.operators))
+          (map-within most_listed (λ r. length r.conds) parts.rules (all-one good (λ r. nat_le (length r.conds) most_listed) parts.rules (λ r a. (passes_rule parts.variables parts.init r a).few) is.rules));
+      effects = map-within most_listed (λ o. length o.effects) parts.operators (all-one admissible (λ o. is_few o.effects) parts.operators (λ o a. (passes_operator parts.variables o a).few) is.operators);
+      rules = within-one (length parts.rules) most_rules (test-le (length parts.rules) most_rules is.few_rules);
+      costs = map-within highest_cost (λ o. o.cost) parts.operators (all-one admissible (λ o. nat_le o.cost highest_cost) parts.operators (λ o a. (passes_operator parts.variables o a).cost) is.operators);
+      names = within-both longest_name (flat_map names_of parts.variables) (map (λ o. length o.name) parts.operators)
+          (flat_map-within longest_name names_of parts.variables (all-one is_variable (λ v. within longest_name (names_of v)) parts.variables variable_names is.variables))
+          (map-within longest_name (λ o. length o.name) parts.operators (all-one admissible (λ o. is_short o.name) parts.operators (λ o a. (passes_operator parts.variables o a).name) is.operators));
+      two_values = all-one is_variable (λ v. not (is_wide v)) parts.variables (λ v a. not_wide v.layer (length v.values) (passes_variable v a).layer) is.variables;
+      sound = all_sound parts is;
+      unit_costs = unit parts.metric (is_unit_cost parts) is.costs;
+      good_rules = all-one good (is_good_rule parts.variables parts.init) parts.rules (λ r a. (passes_rule parts.variables parts.init r a).good) is.rules;
+    }
+
+-- nothing refuses admissible parts
+pub admitted : (parts : Parts) → IsAdmissible parts → refusal_of parts ≡ None
+admitted parts is = accepted parts (tests_pass parts is)
