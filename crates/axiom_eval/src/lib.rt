@@ -5,8 +5,7 @@
 #![tactic(auto)]
 
 mod axioms;
-mod conditions;
 mod settling;
 
 pub use axioms::Axioms;
-pub use conditions::all_hold;
+pub use sas_task::all_hold;

@@ -5,8 +5,7 @@ ghost use Rattle.sas_task.specs.WellFormed.{layer_of};
 ghost use Rattle.sas_task.specs.States.{all_hold as facts_hold, written, rules_of, is_layer, rounds_of, size_of, reset, default_or, settled_below, top_of as the_top};
 ghost use Rattle.axiom_eval.specs.Within.{rule_is_within};
 
-use crate::conditions::all_hold;
-use sas_task::{Parts, Rule, Variable};
+use sas_task::{Parts, Rule, Variable, all_hold};
 
 fn is_of_layer(variables: &[Variable], var: u32, layer: u32) -> bool
     ensures { result ≡ is_layer (layer_of variables.now var) layer }

@@ -16,7 +16,8 @@ use Rattle.exit_codes.specs.declared.parts.Part.{Part}
 use Rattle.exit_codes.specs.declared.parts.Part.TheVariants as part
 use Rattle.plain_search.specs.declared.space.Member.{Member}
 use Rattle.plain_search.specs.Spaces.{IsExhausted}
-use Rattle.plain_search.specs.Visits.{IsPlanOf, HasNoPlan}
+use Rattle.sas_task.specs.Runs.{IsPlanOf}
+use Rattle.plain_search.specs.Visits.{HasNoPlan}
 use Rattle.driver_core.specs.declared.events.Event.{Event}
 use Rattle.driver_core.specs.declared.events.Event.TheVariants.{Began, Candidate, Ended}
 use Rattle.driver_core.specs.Legal.{IsAllowed, Runs}
@@ -79,7 +80,7 @@ pub solved_by_plan : (parts : Parts) (times : Times) (ops : List ℕ) (cost code
     })
 solved_by_plan parts times ops cost code plan later is = record {
   plans = record {
-    plans = λ k kept at. rw (← (only (record { entry = 1; ops = ops; cost = cost }) kept k at)) (record { parts = parts; of_task = refl; by_entry = refl; plan = plan.plan; cost_is = plan.is_sum });
+    plans = λ k kept at. rw (← (only (record { entry = 1; ops = ops; cost = cost }) kept k at)) (record { parts = parts; of_task = refl; by_entry = refl; plan = plan.plan; cost_is = plan.cost_is });
     most = omega arith;
     own = λ k candidate at. rw (← (only (record { entry = 1; file = None; found = WasKept 0 }) candidate k at)) (refl, refl);
     places = refl;
@@ -93,7 +94,7 @@ solved_by_plan parts times ops cost code plan later is = record {
   };
   code = is;
   began = refl;
-  writable = λ k kept at. rw (← (only (record { entry = 1; ops = ops; cost = cost }) kept k at)) (record { cost = plan.is_sum; few = plan.few });
+  writable = λ k kept at. rw (← (only (record { entry = 1; ops = ops; cost = cost }) kept k at)) (record { cost = plan.cost_is; few = plan.few });
 }
 
 -- with the whole space

@@ -10,10 +10,10 @@ use Rattle.sas_task.specs.declared.contents.Operator.{Operator}
 use Rattle.sas_task.specs.declared.contents.Parts.{Parts}
 use Rattle.sas_task.specs.WellFormed.{IsWellFormed}
 use Rattle.sas_task.specs.States.{IsState, settled, step}
-use Rattle.sas_task.specs.Runs.{start_of, end_of, is_goal, cost_at, cost_of}
-use Rattle.sas_task.specs.Laws.{step-by, step-state, step-settled, start-state, settled-settled, end_of-append, end_of-first, cost_of-append, cost_at-small}
+use Rattle.sas_task.specs.Runs.{IsPlanOf, start_of, end_of, is_goal, cost_at, cost_of}
+use Rattle.sas_task.specs.Laws.{ops-within, step-state, step-settled, start-state, settled-settled, end_of-append, end_of-first, cost_of-append, cost_at-small}
 use Rattle.plain_search.specs.Spaces.{IsSettled, IsExhausted, StaysIn, is_among}
-use Rattle.plain_search.specs.Visits.{AreEarlier, IsChild, IsVisited, LeadsOn, Grows, IsPlanOf}
+use Rattle.plain_search.specs.Visits.{AreEarlier, IsChild, IsVisited, LeadsOn, Grows}
 use Rattle.plain_search.specs.declared.space.Member.{Member}
 use Rattle.plain_search.specs.declared.breadth_first.Origin.{Origin}
 
@@ -178,23 +178,6 @@ leads_on_more parts from mid to op ops taken cost on = record {
   cost = let split : cost_of parts (op ∷ ops) ≡ cost_at parts op + cost_of parts ops = cost_of-append parts (op ∷ []) ops ∙ ap (λ n. n + cost_of parts ops) (zero-add (cost_at parts op)) in omega (arith, cost, on.cost, split);
 }
 
--- an operator of the task is taken
-pub taken_within : (parts : Parts) (state : List ℕ) (op : ℕ) (next : List ℕ) → step parts state op ≡ Some next → op < length parts.operators
-taken_within parts state op next taken = let by = step-by parts state op next taken in slice_get_within parts.operators op by.operator by.at
-
-each_within : (n op : ℕ) (ops : List ℕ) → op < n → ((k : ℕ) → k < length ops → slice_index ops k < n) → (k : ℕ) → k < length (op ∷ ops) → slice_index (op ∷ ops) k < n
-each_within n op ops first rest zero lt = first
-each_within n op ops first rest (suc k) lt = rest k (omega arith)
-
--- the operators of a run are operators of the task
-pub ops_within : (parts : Parts) (start ops last : List ℕ) → end_of parts start ops ≡ Some last → (k : ℕ) → k < length ops → slice_index ops k < length parts.operators
-ops_within parts start [] last run = λ k lt. absurd (omega arith)
-ops_within parts start (op ∷ ops) last run =
-    elim (step parts start op) as (λ o. step parts start op ≡ o → option_and_then (λ next. end_of parts next ops) o ≡ Some last → (k : ℕ) → k < length (op ∷ ops) → slice_index (op ∷ ops) k < length parts.operators) [
-      | None ↦ λ taken r. let e : ◌≡◌ {A = Option (List ℕ)} None (Some last) = r in cc
-      | Some next ↦ λ taken r. each_within (length parts.operators) op ops (taken_within parts start op next taken) (ops_within parts next ops last r)
-    ] refl run
-
 -- an operator more at the end leads to a goal
 pub plan_is_found : (parts : Parts) (first last : Member) (before : List ℕ) (op cost : ℕ) (goal : List ℕ) → first ≡ record { state = start_of parts; cost = 0 } → LeadsOn parts first last before → step parts last.state op ≡ Some goal →
     is_goal parts goal ≡ true → cost ≡ last.cost + cost_at parts op → length (before ++ op ∷ []) < 2 ^ 32 → IsPlanOf parts (before ++ op ∷ []) cost
@@ -207,9 +190,9 @@ plan_is_found parts first last before op cost goal is on taken reached sum few =
     let whole : end_of parts (start_of parts) (before ++ op ∷ []) ≡ Some goal = end_of-append parts (start_of parts) before op last.state leads ∙ taken in
     record {
       plan = record { last = goal; leads = whole; goal = reached };
-      is_sum = omega (arith, total, one, on.cost, none, sum);
+      cost_is = omega (arith, total, one, on.cost, none, sum);
       few = few;
-      within = ops_within parts (start_of parts) (before ++ op ∷ []) goal whole;
+      operators = ops-within parts (start_of parts) (before ++ op ∷ []) goal whole;
     }
 
 -- a place within has a member

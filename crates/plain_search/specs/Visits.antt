@@ -2,7 +2,7 @@
 use Rattle.std.specs.Prelude.{◌≡◌, ℕ, ◌+◌, ◌*◌, ◌^◌, ◌<◌, ◌≤◌, ◌++◌, List, length, false, IsTrue, slice_get, slice_index, Some}
 use Rattle.sas_task.specs.declared.contents.Parts.{Parts}
 use Rattle.sas_task.specs.States.{step}
-use Rattle.sas_task.specs.Runs.{IsPlan, start_of, end_of, is_goal, cost_at, cost_of}
+use Rattle.sas_task.specs.Runs.{IsPlan, IsPlanOf, start_of, end_of, is_goal, cost_at, cost_of}
 use Rattle.plain_search.specs.declared.space.Member.{Member}
 use Rattle.plain_search.specs.declared.breadth_first.Origin.{Origin}
 use Rattle.plain_search.specs.declared.breadth_first.Visit.{Visit}
@@ -43,13 +43,6 @@ pub record LeadsOn (parts : Parts) (from to : Member) (ops : List ℕ) : Type 0 
 pub record Grows (old new : List Member) : Type 0 where
   pub more : List Member
   pub is : new ≡ old ++ more
-
--- a plan, and what it costs
-pub record IsPlanOf (parts : Parts) (ops : List ℕ) (cost : ℕ) : Type 0 where
-  pub plan : IsPlan parts ops
-  pub is_sum : cost ≡ cost_of parts ops
-  pub few : length ops < 2 ^ 32
-  pub within : (k : ℕ) → k < length ops → slice_index ops k < length parts.operators
 
 -- the operator leads from the member to one that was found; or a plan was found
 abbrev pub Visits : Parts → List Member → ℕ → ℕ → Visit → Type 0

@@ -1,14 +1,14 @@
 -- Laws of parts that nothing refuses.
-use Rattle.std.specs.Prelude.{◌≡◌, ℕ, ◌+◌, ◌≤◌, List, [], ◌∷◌, ◌++◌, length, Bool, true, false, ◌&&◌, not, nat_eq, nat_lt, nat_le, map, filter_map, flat_map, Option, Some, None, is_some}
+use Rattle.std.specs.Prelude.{◌≡◌, ℕ, ◌+◌, ◌≤◌, List, [], ◌∷◌, ◌++◌, length, Bool, true, false, ◌&&◌, not, nat_eq, nat_lt, nat_le, map, filter, filter_map, flat_map, Option, Some, None, is_some, if◌then◌else◌}
 use Rattle.std.proofs.Common.{arith, refl, sym, ap, ◌∙◌}
 use Rattle.std.specs.List.{list_all, cons_option}
 use Rattle.lama_num.specs.Lists.{both}
 use Rattle.sas_task.specs.Limits.{most_variables, most_facts, most_operators, most_rules, most_listed, highest_layer, highest_cost, longest_name}
-use Rattle.sas_task.specs.WellFormed.{is_derived, is_short, is_few, is_layered, is_variable, is_fact, are_facts, is_effect, starts, fact_count}
+use Rattle.sas_task.specs.WellFormed.{IsWellFormed, is_operator, is_rule, is_default, is_layered_rule, has_few_conditions, is_derived, is_short, is_few, is_layered, is_variable, is_fact, are_facts, is_effect, starts, fact_count}
 use Rattle.sas_task.specs.Admissible.{is_admissible_operator, is_admissible_rule, IsAdmissible}
 use Rattle.sas_task.specs.Costs.{is_unit_cost}
-use Rattle.sas_task.specs.Order.{prevail_count, has_few_prevail}
-use Rattle.sas_task.specs.Refusals.{conditions_of, names_of, is_wide, is_sound_effect, is_sound_operator, is_sound_rule, is_sound, is_good_rule, refusal_of}
+use Rattle.sas_task.specs.Order.{in_order, prevail_count, has_few_prevail}
+use Rattle.sas_task.specs.Refusals.{conditions_of, names_of, is_wide, is_sound_effect, is_sound_operator, is_sound_rule, is_sound, is_good_rule, refusal_of, brought}
 use Rattle.sas_task.specs.Acceptance.{within, IsAccepted, accepted}
 use Rattle.sas_task.specs.declared.contents.Fact.{Fact}
 use Rattle.sas_task.specs.declared.contents.Variable.{Variable}
@@ -16,7 +16,7 @@ use Rattle.sas_task.specs.declared.contents.Effect.{Effect}
 use Rattle.sas_task.specs.declared.contents.Operator.{Operator}
 use Rattle.sas_task.specs.declared.contents.Rule.{Rule}
 use Rattle.sas_task.specs.declared.contents.Parts.{Parts}
-use Rattle.sas_task.specs.Tests.{and_true, test-le, all-one, within-one, flat_map-within, map-within, within-both}
+use Rattle.sas_task.specs.Tests.{and_true, test-le, all-one, all-two, within-one, flat_map-within, map-within, within-both}
 
 -- variables
 
@@ -165,3 +165,59 @@ tests_pass parts is =
 -- nothing refuses admissible parts
 pub admitted : (parts : Parts) → IsAdmissible parts → refusal_of parts ≡ None
 admitted parts is = accepted parts (tests_pass parts is)
+
+-- well-formed parts are admissible
+formed_operators : (variables : List Variable) (operators : List Operator) → list_all (is_operator variables) operators ≡ true → list_all has_few_prevail operators ≡ true → list_all (is_admissible_operator variables) operators ≡ true
+formed_operators variables operators are few = all-two (is_operator variables) has_few_prevail (is_admissible_operator variables) operators one are few
+  where
+    one : (o : Operator) → is_operator variables o ≡ true → has_few_prevail o ≡ true → is_admissible_operator variables o ≡ true
+    one o is prevail =
+        let rest = list_all (is_fact variables) o.pre && (is_few o.effects && (list_all (is_effect variables) o.effects && nat_le o.cost highest_cost)) in
+        let a = both (is_short o.name) (has_few_conditions o && rest) is in
+        let b = both (has_few_conditions o) rest a.1 in
+        and_true (is_short o.name) _ a.0 (and_true (has_few_prevail o) rest prevail b.1)
+
+formed_rule : (variables : List Variable) (init : List ℕ) (r : Rule) → is_rule variables init r ≡ true → is_admissible_rule variables init r ≡ true
+formed_rule variables init r is =
+    let layered = is_layered_rule variables init r in
+    let a = both (are_facts variables r.conds) (is_fact variables r.head && (not (is_default init r.head) && layered)) is in
+    let b = both (is_fact variables r.head) (not (is_default init r.head) && layered) a.1 in
+    let c = both (not (is_default init r.head)) layered b.1 in
+    and_true (are_facts variables r.conds) _ a.0 (and_true (is_fact variables r.head) _ b.0 (good (is_default init r.head) c.0 c.1))
+  where
+    good : (default : Bool) → not default ≡ true → is_layered_rule variables init r ≡ true → (if default then is_derived variables r.head.var else is_layered_rule variables init r) ≡ true
+    good true other is = let k : false ≡ true = other in cc
+    good false other is = is
+
+pub admissible : (parts : Parts) → IsWellFormed parts → IsAdmissible parts
+admissible parts formed = record {
+  few_variables = formed.few_variables;
+  variables = formed.variables;
+  few_facts = formed.few_facts;
+  few_groups = formed.few_groups;
+  groups = formed.groups;
+  init = formed.init;
+  goal = formed.goal;
+  few_operators = formed.few_operators;
+  operators = formed_operators parts.variables parts.operators formed.operators formed.conditions;
+  costs = formed.costs;
+  few_rules = formed.few_rules;
+  rules = all-one (is_rule parts.variables parts.init) (is_admissible_rule parts.variables parts.init) parts.rules (formed_rule parts.variables parts.init) formed.rules;
+}
+
+-- nothing refuses well-formed parts
+pub refusal_of-formed : (parts : Parts) → IsWellFormed parts → refusal_of parts ≡ None
+refusal_of-formed parts formed = admitted parts (admissible parts formed)
+
+-- and where their preconditions are in order, they are brought to themselves
+pub brought-formed : (parts : Parts) → IsWellFormed parts → map in_order parts.operators ≡ parts.operators → brought parts ≡ parts
+brought-formed parts formed ordered = rw (ordered, no_defaults parts.variables parts.init parts.rules formed.rules) refl
+  where
+    no_defaults : (variables : List Variable) (init : List ℕ) (rules : List Rule) → list_all (is_rule variables init) rules ≡ true → filter (λ r. not (is_default init r.head)) rules ≡ rules
+    no_defaults variables init [] all = refl
+    no_defaults variables init (r ∷ rules) all =
+        let parts = both (is_rule variables init r) (list_all (is_rule variables init) rules) all in
+        let a = both (are_facts variables r.conds) (is_fact variables r.head && (not (is_default init r.head) && is_layered_rule variables init r)) parts.0 in
+        let b = both (is_fact variables r.head) (not (is_default init r.head) && is_layered_rule variables init r) a.1 in
+        let c = both (not (is_default init r.head)) (is_layered_rule variables init r) b.1 in
+        rw c.0 (ap (λ rs. r ∷ rs) (no_defaults variables init rules parts.1))

@@ -1,13 +1,14 @@
 -- Laws of states, steps and runs of well-formed tasks.
-use Rattle.std.specs.Prelude.{◌≡◌, ℕ, zero, suc, ◌+◌, ◌<◌, ◌≤◌, List, [], ◌∷◌, ◌++◌, length, Bool, true, false, ◌&&◌, not, nat_eq, nat_lt, nat_le, map, slice_index, slice_get, Option, Some, None, option_and_then, if◌then◌else◌}
+use Rattle.std.specs.Prelude.{◌≡◌, ℕ, zero, suc, ◌+◌, ◌*◌, ◌<◌, ◌≤◌, List, [], ◌∷◌, ◌++◌, length, Bool, true, false, ◌&&◌, not, nat_eq, nat_lt, nat_le, map, slice_index, slice_get, Option, Some, None, is_some, option_map, option_and_then, if◌then◌else◌}
 use Rattle.std.specs.List.{list_all, enumerate_from, zip}
-use Rattle.std.proofs.Common.{arith, refl, sym, ap, ◌∙◌, subst}
+use Rattle.std.proofs.Common.{arith, refl, sym, ap, ◌∙◌, subst, zero-add}
 use Rattle.std.proofs.lemmas.Bool.Decides.{nat_tests}
 use Rattle.std.proofs.lemmas.List.{get_or-map}
 use Rattle.std.proofs.lemmas.List.FromFn.{get_or-enumerate_from}
 use Rattle.std.proofs.lemmas.List.Sums.{sum_by-append}
+use Rattle.std.proofs.lemmas.Option.{slice_get_within}
 use Rattle.lama_num.specs.Lists.{both, list_all_get}
-use Rattle.sas_task.specs.Order.{IsInOrder}
+use Rattle.sas_task.specs.Limits.{most_listed, highest_cost}
 use Rattle.sas_task.specs.declared.contents.Fact.{Fact}
 use Rattle.sas_task.specs.declared.contents.Variable.{Variable}
 use Rattle.sas_task.specs.declared.contents.Effect.{Effect}
@@ -15,8 +16,8 @@ use Rattle.sas_task.specs.declared.contents.Operator.{Operator}
 use Rattle.sas_task.specs.declared.contents.Rule.{Rule}
 use Rattle.sas_task.specs.declared.contents.Parts.{Parts}
 use Rattle.sas_task.specs.WellFormed.{IsWellFormed, range_of, layer_of, is_derived, is_fact, is_effect, is_operator, is_rule, is_variable, is_layered, is_default, is_layered_below, is_layered_rule, are_facts, is_few, is_short, has_few_conditions}
-use Rattle.sas_task.specs.States.{IsState, all_hold, fires, given, last_or, written, is_layer, rules_of, rounds_of, size_of, settled_below, default_or, reset, top_of, settled, step}
-use Rattle.sas_task.specs.Runs.{start_of, end_of, cost_at, cost_of}
+use Rattle.sas_task.specs.States.{IsState, all_hold, fires, given, last_or, written, is_layer, rules_of, rounds_of, size_of, settled_below, default_or, reset, top_of, settled, step, is_applicable}
+use Rattle.sas_task.specs.Runs.{start_of, end_of, states_of, cost_at, cost_of}
 
 -- a test that follows from another
 weaker : {X : Type 0} (p q : X → Bool) (xs : List X) → ((x : X) → p x ≡ true → q x ≡ true) → list_all p xs ≡ true → list_all q xs ≡ true
@@ -226,6 +227,16 @@ settled-settled parts state = ap (settled_below parts (top_of parts.variables)) 
 pub start-state : (parts : Parts) → IsWellFormed parts → IsState parts.variables (start_of parts)
 start-state parts formed = settled-state parts parts.init formed (init-state parts formed)
 
+-- Settling leaves the variables that aren't derived.
+pub settled-stays : (parts : Parts) (state : List ℕ) (var : ℕ) → var < length state → is_derived parts.variables var ≡ false → slice_index (settled parts state) var ≡ slice_index state var
+settled-stays parts state var lt plain =
+    let long = length-settled parts state in
+    let there : var < length (settled parts state) = omega (arith, long, lt) in
+    sym (stays (settled parts state) there) ∙ ap (λ s. slice_index s var) (reset-settled_below parts (top_of parts.variables) (reset parts state) ∙ reset-reset parts state) ∙ stays state lt
+  where
+    stays : (s : List ℕ) → var < length s → slice_index (reset parts s) var ≡ slice_index s var
+    stays s lt = at_place (λ p. default_or parts p.0 p.1) s var lt ∙ ap (λ b. if b then slice_index parts.init var else slice_index s var) plain
+
 -- steps
 
 -- a step is by an operator of the task whose conditions hold
@@ -250,19 +261,19 @@ step-by parts state op next taken =
 pub record IsOperator (variables : List Variable) (operator : Operator) : Type 0 where
   pub pre : list_all (is_fact variables) operator.pre ≡ true
   pub effects : list_all (is_effect variables) operator.effects ≡ true
-  pub cost : operator.cost ≤ 2147483647
+  pub cost : operator.cost ≤ highest_cost
 
 operator_tests : (variables : List Variable) (operator : Operator) → is_operator variables operator ≡ true → IsOperator variables operator
 operator_tests variables operator all =
     let pre = list_all (is_fact variables) operator.pre in
     let effects = list_all (is_effect variables) operator.effects in
-    let cost = nat_le operator.cost 2147483647 in
+    let cost = nat_le operator.cost highest_cost in
     let named = both (is_short operator.name) (has_few_conditions operator && (pre && (is_few operator.effects && (effects && cost)))) all in
     let short = both (has_few_conditions operator) (pre && (is_few operator.effects && (effects && cost))) named.1 in
     let conditions = both pre (is_few operator.effects && (effects && cost)) short.1 in
     let few = both (is_few operator.effects) (effects && cost) conditions.1 in
     let last = both effects cost few.1 in
-    let small : nat_le operator.cost 2147483647 ≡ true = last.1 in
+    let small : nat_le operator.cost highest_cost ≡ true = last.1 in
     record { pre = conditions.0; effects = last.0; cost = grind (arith, nat_tests, small) }
 
 -- each operator of a well-formed task passes its tests
@@ -289,35 +300,139 @@ step-settled parts state op next taken =
     let by = step-by parts state op next taken in
     ap (settled parts) by.is ∙ settled-settled parts (written state by.operator.effects) ∙ sym by.is
 
+-- A step is there exactly where the operator is applicable.
+pub is_some-step : (parts : Parts) (state : List ℕ) (op : ℕ) → is_some (step parts state op) ≡ is_applicable parts state op
+is_some-step parts state op =
+    elim (slice_get parts.operators op) as (λ o. slice_get parts.operators op ≡ o → is_some (step parts state op) ≡ is_applicable parts state op) [
+      | None ↦ λ at. rw at refl
+      | Some o ↦ λ at.
+          elim (all_hold state o.pre) as (λ b. all_hold state o.pre ≡ b → is_some (step parts state op) ≡ is_applicable parts state op) [
+            | true ↦ λ hold. rw (at, hold) refl
+            | false ↦ λ hold. rw (at, hold) refl
+          ] refl
+    ] refl
+
+-- an applicable operator is one of the task
+pub applicable-within : (parts : Parts) (state : List ℕ) (op : ℕ) → is_applicable parts state op ≡ true → op < length parts.operators
+applicable-within parts state op is =
+    elim (slice_get parts.operators op) as (λ o. slice_get parts.operators op ≡ o → op < length parts.operators) [
+      | None ↦ λ at. let k : false ≡ true = rw at at is in cc
+      | Some o ↦ λ at. slice_get_within parts.operators op o at
+    ] refl
+
+-- the step by an applicable operator
+pub step-applicable : (parts : Parts) (state : List ℕ) (op : ℕ) (o : Operator) → slice_get parts.operators op ≡ Some o → is_applicable parts state op ≡ true → step parts state op ≡ Some (settled parts (written state o.effects))
+step-applicable parts state op o at is =
+    let hold : all_hold state o.pre ≡ true = rw at at is in
+    rw (at, hold) refl
+
+-- there is no step where it isn't
+pub step-none : (parts : Parts) (state : List ℕ) (op : ℕ) → is_applicable parts state op ≡ false → step parts state op ≡ None
+step-none parts state op is =
+    elim (step parts state op) as (λ o. step parts state op ≡ o → o ≡ None) [
+      | None ↦ λ taken. refl
+      | Some next ↦ λ taken.
+          let there : is_some (step parts state op) ≡ true = rw taken refl in
+          let clash : true ≡ false = sym there ∙ is_some-step parts state op ∙ is in
+          cc
+    ] refl
+
 -- runs
+
+-- where a run goes on from what it reached
+pub end_of-join : (parts : Parts) (start ops more mid : List ℕ) → end_of parts start ops ≡ Some mid → end_of parts start (ops ++ more) ≡ end_of parts mid more
+end_of-join parts start [] more mid is = let s : Some start ≡ Some mid = is in let e : start ≡ mid = cc in rw e refl
+end_of-join parts start (first ∷ ops) more mid is =
+    elim (step parts start first) as (λ o. option_and_then (λ next. end_of parts next ops) o ≡ Some mid → option_and_then (λ next. end_of parts next (ops ++ more)) o ≡ end_of parts mid more) [
+      | None ↦ λ e. let k : ◌≡◌ {A = Option (List ℕ)} None (Some mid) = e in cc
+      | Some next ↦ λ e. end_of-join parts next ops more mid e
+    ] is
 
 -- a run goes on by one step
 pub end_of-append : (parts : Parts) (start ops : List ℕ) (op : ℕ) (mid : List ℕ) → end_of parts start ops ≡ Some mid → end_of parts start (ops ++ op ∷ []) ≡ step parts mid op
-end_of-append parts start [] op mid is = let s : Some start ≡ Some mid = is in let e : start ≡ mid = cc in rw e (last (step parts mid op))
+end_of-append parts start ops op mid is = end_of-join parts start ops (op ∷ []) mid is ∙ last (step parts mid op)
   where
     last : (o : Option (List ℕ)) → option_and_then (λ next. Some next) o ≡ o
     last None = refl
     last (Some x) = refl
-end_of-append parts start (first ∷ ops) op mid is =
-    elim (step parts start first) as (λ o. option_and_then (λ next. end_of parts next ops) o ≡ Some mid → option_and_then (λ next. end_of parts next (ops ++ op ∷ [])) o ≡ step parts mid op) [
-      | None ↦ λ e. let k : ◌≡◌ {A = Option (List ℕ)} None (Some mid) = e in cc
-      | Some next ↦ λ e. end_of-append parts next ops op mid e
-    ] is
 
 -- a run begins with one step more
 pub end_of-first : (parts : Parts) (start mid : List ℕ) (op : ℕ) (ops : List ℕ) → step parts start op ≡ Some mid → end_of parts start (op ∷ ops) ≡ end_of parts mid ops
 end_of-first parts start mid op ops taken = rw taken refl
 
+taken-within : (parts : Parts) (state : List ℕ) (op : ℕ) (next : List ℕ) → step parts state op ≡ Some next → op < length parts.operators
+taken-within parts state op next taken = let by = step-by parts state op next taken in slice_get_within parts.operators op by.operator by.at
+
+each-within : (n op : ℕ) (ops : List ℕ) → op < n → ((k : ℕ) → k < length ops → slice_index ops k < n) → (k : ℕ) → k < length (op ∷ ops) → slice_index (op ∷ ops) k < n
+each-within n op ops first rest zero lt = first
+each-within n op ops first rest (suc k) lt = rest k (omega arith)
+
+-- the operators of a run are operators of the task
+pub ops-within : (parts : Parts) (start ops last : List ℕ) → end_of parts start ops ≡ Some last → (k : ℕ) → k < length ops → slice_index ops k < length parts.operators
+ops-within parts start [] last run = λ k lt. absurd (omega arith)
+ops-within parts start (op ∷ ops) last run =
+    elim (step parts start op) as (λ o. step parts start op ≡ o → option_and_then (λ next. end_of parts next ops) o ≡ Some last → (k : ℕ) → k < length (op ∷ ops) → slice_index (op ∷ ops) k < length parts.operators) [
+      | None ↦ λ taken r. let e : ◌≡◌ {A = Option (List ℕ)} None (Some last) = r in cc
+      | Some next ↦ λ taken r. each-within (length parts.operators) op ops (taken-within parts start op next taken) (ops-within parts next ops last r)
+    ] refl run
+
+-- The states of a run are those before its end, its end, and where it goes on, those of what follows.
+pub record EndsIn (parts : Parts) (start ops last : List ℕ) : Type 0 where
+  pub before : List (List ℕ)
+  pub long : length before ≡ length ops
+  pub states : states_of parts start ops ≡ Some (before ++ last ∷ [])
+  pub goes_on : (more : List ℕ) (after : List (List ℕ)) → states_of parts last more ≡ Some after → states_of parts start (ops ++ more) ≡ Some (before ++ after)
+
+pub states_of-join : (parts : Parts) (start ops last : List ℕ) → end_of parts start ops ≡ Some last → EndsIn parts start ops last
+states_of-join parts start [] last is =
+    let s : Some start ≡ Some last = is in
+    let e : start ≡ last = cc in
+    record { before = []; long = refl; states = rw e refl; goes_on = λ more after there. rw e there }
+states_of-join parts start (op ∷ ops) last is =
+    elim (step parts start op) as (λ o. step parts start op ≡ o → option_and_then (λ next. end_of parts next ops) o ≡ Some last → EndsIn parts start (op ∷ ops) last) [
+      | None ↦ λ taken e. let k : ◌≡◌ {A = Option (List ℕ)} None (Some last) = e in cc
+      | Some next ↦ λ taken e.
+          let rest = states_of-join parts next ops last e in
+          record {
+            before = start ∷ rest.before;
+            long = ap suc rest.long;
+            states = rw (taken, rest.states) refl;
+            goes_on = λ more after there. let on = rest.goes_on more after there in rw (taken, on) refl;
+          }
+    ] refl is
+
+-- operators have states exactly where they lead somewhere
+pub is_some-states_of : (parts : Parts) (start ops : List ℕ) → is_some (states_of parts start ops) ≡ is_some (end_of parts start ops)
+is_some-states_of parts start [] = refl
+is_some-states_of parts start (op ∷ ops) = after (step parts start op) (λ next. is_some-states_of parts next ops)
+  where
+    mapped : (states : Option (List (List ℕ))) → is_some (option_map (λ more. start ∷ more) states) ≡ is_some states
+    mapped None = refl
+    mapped (Some states) = refl
+
+    after : (o : Option (List ℕ)) → ((next : List ℕ) → is_some (states_of parts next ops) ≡ is_some (end_of parts next ops)) → is_some (option_and_then (λ next. option_map (λ states. start ∷ states) (states_of parts next ops)) o) ≡ is_some (option_and_then (λ next. end_of parts next ops) o)
+    after None same = refl
+    after (Some next) same = mapped (states_of parts next ops) ∙ same next
+
 pub cost_of-append : (parts : Parts) (ops more : List ℕ) → cost_of parts (ops ++ more) ≡ cost_of parts ops + cost_of parts more
 cost_of-append parts ops more = sum_by-append (cost_at parts) ops more
 
 -- an operator costs less than 2 ^ 31
-pub cost_at-small : (parts : Parts) (op : ℕ) → IsWellFormed parts → cost_at parts op ≤ 2147483647
+pub cost_at-small : (parts : Parts) (op : ℕ) → IsWellFormed parts → cost_at parts op ≤ highest_cost
 cost_at-small parts op formed =
-    elim (slice_get parts.operators op) as (λ o. slice_get parts.operators op ≡ o → cost_at parts op ≤ 2147483647) [
+    elim (slice_get parts.operators op) as (λ o. slice_get parts.operators op ≡ o → cost_at parts op ≤ highest_cost) [
       | None ↦ λ at. rw at (omega arith)
       | Some operator ↦ λ at. rw at (operator-at parts op operator formed at).cost
     ] refl
+
+-- operators cost at most their number times the highest cost
+pub cost_of-small : (parts : Parts) (ops : List ℕ) → IsWellFormed parts → cost_of parts ops ≤ length ops * highest_cost
+cost_of-small parts [] formed = omega arith
+cost_of-small parts (op ∷ ops) formed =
+    let first = cost_at-small parts op formed in
+    let rest = cost_of-small parts ops formed in
+    let sum : cost_of parts (op ∷ ops) ≡ cost_at parts op + cost_of parts ops = cost_of-append parts (op ∷ []) ops ∙ ap (λ n. n + cost_of parts ops) (zero-add (cost_at parts op)) in
+    omega (arith, first, rest, sum)
 
 -- what the tests of well-formed parts tell of one member
 
@@ -325,56 +440,13 @@ le-from_test : (n most : ℕ) → nat_le n most ≡ true → n ≤ most
 le-from_test n most is = grind (arith, nat_tests, is)
 
 -- a list of facts that passed its test
-pub facts-test : (variables : List Variable) (facts : List Fact) → are_facts variables facts ≡ true → (length facts ≤ 1048576) × (list_all (is_fact variables) facts ≡ true)
+pub facts-test : (variables : List Variable) (facts : List Fact) → are_facts variables facts ≡ true → (length facts ≤ most_listed) × (list_all (is_fact variables) facts ≡ true)
 facts-test variables facts all =
     let parts = both (is_few facts) (list_all (is_fact variables) facts) all in
-    (le-from_test (length facts) 1048576 parts.0, parts.1)
-
-pub few-variables : (parts : Parts) → IsWellFormed parts → length parts.variables ≤ 1048576
-few-variables parts formed = le-from_test (length parts.variables) 1048576 formed.few_variables
+    (le-from_test (length facts) most_listed parts.0, parts.1)
 
 pub goal-facts : (parts : Parts) → IsWellFormed parts → list_all (is_fact parts.variables) parts.goal ≡ true
 goal-facts parts formed = (facts-test parts.variables parts.goal formed.goal).1
-
-pub group-facts : (parts : Parts) (place : ℕ) (group : List Fact) → IsWellFormed parts → slice_get parts.groups place ≡ Some group → list_all (is_fact parts.variables) group ≡ true
-group-facts parts place group formed at = (facts-test parts.variables group (list_all_get (are_facts parts.variables) parts.groups place group formed.groups at)).1
-
--- A variable has a value, and not too many. A derived one has two, and a layer within the limit.
-pub record IsVariable (variable : Variable) : Type 0 where
-  pub some : 0 < length variable.values
-  pub few : length variable.values ≤ 1048576
-  pub two : (layer : ℕ) → variable.layer ≡ Some layer → (layer ≤ 1048576) × (length variable.values ≡ 2)
-
-pub variable-at : (parts : Parts) (var : ℕ) (variable : Variable) → IsWellFormed parts → slice_get parts.variables var ≡ Some variable → IsVariable variable
-variable-at parts var variable formed at =
-    let short = list_all is_short variable.values in
-    let layered = is_layered variable.layer (length variable.values) in
-    let some = nat_lt 0 (length variable.values) in
-    let all = list_all_get is_variable parts.variables var variable formed.variables at in
-    let a = both (is_short variable.name) (layered && (some && (is_few variable.values && short))) all in
-    let b = both layered (some && (is_few variable.values && short)) a.1 in
-    let c = both some (is_few variable.values && short) b.1 in
-    let d = both (is_few variable.values) short c.1 in
-    let more : nat_lt 0 (length variable.values) ≡ true = c.0 in
-    record {
-      some = grind (arith, nat_tests, more);
-      few = le-from_test (length variable.values) 1048576 d.0;
-      two = λ layer is. two_values layer (length variable.values) (subst (λ o. is_layered o (length variable.values) ≡ true) is b.0);
-    }
-  where
-    two_values : (layer range : ℕ) → is_layered (Some layer) range ≡ true → (layer ≤ 1048576) × (range ≡ 2)
-    two_values layer range all =
-        let parts = both (nat_le layer 1048576) (nat_eq range 2) all in
-        let low : nat_le layer 1048576 ≡ true = parts.0 in
-        let two : nat_eq range 2 ≡ true = parts.1 in
-        (grind (arith, nat_tests, low), grind (arith, nat_tests, two))
-
--- the initial value of a variable is a fact; so is the default of a derived one
-pub initial-fact : (parts : Parts) (var : ℕ) → IsWellFormed parts → var < length parts.variables → is_fact parts.variables (record { var = var; val = slice_index parts.init var }) ≡ true
-initial-fact parts var formed lt = lt-test (slice_index parts.init var) (range_of parts.variables var) ((init-state parts formed).in_range var lt)
-  where
-    lt-test : (n most : ℕ) → n < most → nat_lt n most ≡ true
-    lt-test n most lt = grind (arith, nat_tests, lt)
 
 -- an effect's facts are in range, and it changes no derived variable
 pub record IsEffect (variables : List Variable) (effect : Effect) : Type 0 where
@@ -391,14 +463,6 @@ effect-tests variables effect all =
     unnegated : (b : Bool) → not b ≡ true → b ≡ false
     unnegated true e = let k : false ≡ true = e in cc
     unnegated false e = refl
-
-pub effect-at : (parts : Parts) (op place : ℕ) (operator : Operator) (effect : Effect) → IsWellFormed parts → slice_get parts.operators op ≡ Some operator → slice_get operator.effects place ≡ Some effect → IsEffect parts.variables effect
-effect-at parts op place operator effect formed at there =
-    effect-tests parts.variables effect (list_all_get (is_effect parts.variables) operator.effects place effect (operator-at parts op operator formed at).effects there)
-
--- the preconditions of an operator: none stands twice, and they stand in order
-pub order-at : (parts : Parts) (op : ℕ) (operator : Operator) → IsWellFormed parts → slice_get parts.operators op ≡ Some operator → IsInOrder operator
-order-at parts op operator formed at = formed.order op operator at
 
 -- A rule's facts are in range. Its head is of a derived variable and isn't the default, and its conditions lie in the head's layer or below.
 pub record IsRule (parts : Parts) (rule : Rule) : Type 0 where

@@ -11,3 +11,4 @@ pub mod Runs
 pub mod States
 pub mod Tests
 pub mod WellFormed
+pub mod Within

@@ -1,5 +1,5 @@
 -- Runs of operators, plans, and what they cost.
-use Rattle.std.specs.Prelude.{◌≡◌, ℕ, List, [], ◌∷◌, Bool, IsTrue, slice_get, Option, Some, None, option_and_then, sum_by}
+use Rattle.std.specs.Prelude.{◌≡◌, ℕ, ◌<◌, ◌^◌, List, [], ◌∷◌, length, Bool, IsTrue, slice_get, slice_index, Option, Some, None, option_map, option_and_then, sum_by}
 use Rattle.sas_task.specs.States.{all_hold, step, settled}
 use Rattle.sas_task.specs.declared.contents.Operator.{Operator}
 use Rattle.sas_task.specs.declared.contents.Parts.{Parts}
@@ -12,6 +12,11 @@ start_of parts = settled parts parts.init
 abbrev pub end_of : Parts → List ℕ → List ℕ → Option (List ℕ)
 end_of parts state [] = Some state
 end_of parts state (op ∷ ops) = option_and_then (λ next. end_of parts next ops) (step parts state op)
+
+-- The states of a run: the one from which it starts, and one more for each operator; none where an operator can't be taken.
+abbrev pub states_of : Parts → List ℕ → List ℕ → Option (List (List ℕ))
+states_of parts state [] = Some (state ∷ [])
+states_of parts state (op ∷ ops) = option_and_then (λ next. option_map (λ states. state ∷ states) (states_of parts next ops)) (step parts state op)
 
 -- all goal facts hold
 abbrev pub is_goal : Parts → List ℕ → Bool
@@ -34,3 +39,10 @@ cost_at parts op = cost (slice_get parts.operators op)
 -- the sum of the operators' costs
 abbrev pub cost_of : Parts → List ℕ → ℕ
 cost_of parts ops = sum_by (cost_at parts) ops
+
+-- A plan of the task with its cost. Its operators are operators of the task, and fewer than 2^32.
+pub record IsPlanOf (parts : Parts) (ops : List ℕ) (cost : ℕ) : Type 0 where
+  pub plan : IsPlan parts ops
+  pub cost_is : cost ≡ cost_of parts ops
+  pub operators : (place : ℕ) → place < length ops → slice_index ops place < length parts.operators
+  pub few : length ops < 2 ^ 32

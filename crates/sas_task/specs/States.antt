@@ -96,3 +96,11 @@ step parts state op = taken (slice_get parts.operators op)
     taken : Option Operator → Option (List ℕ)
     taken None = None
     taken (Some o) = if all_hold state o.pre then Some (settled parts (written state o.effects)) else None
+
+-- there is such an operator, and its conditions hold
+abbrev pub is_applicable : Parts → List ℕ → ℕ → Bool
+is_applicable parts state op = allowed (slice_get parts.operators op)
+  where
+    allowed : Option Operator → Bool
+    allowed None = false
+    allowed (Some o) = all_hold state o.pre

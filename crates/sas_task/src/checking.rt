@@ -184,7 +184,9 @@ fn refuse_costs(parts: &Parts) -> Result<(), TaskError>
     }
 }
 
-fn is_good_rule(variables: &[Variable], init: &[u32], rule: &Rule) -> bool
+/// Whether a rule's head is of a derived variable and, where it isn't a default, the conditions lie in
+/// its layer or below.
+pub fn is_good_rule(variables: &[Variable], init: &[u32], rule: &Rule) -> bool
     ensures { result ≡ good_rule variables.now init.now rule.now }
 {
     if is_default(init, rule.head) {

@@ -1,7 +1,9 @@
 // Tests of facts.
-ghost use Rattle.std.specs.Prelude.{◌≡◌};
+ghost use Rattle.std.specs.Prelude.{◌≡◌, ◌<◌, length, IsTrue};
 ghost use Rattle.std.specs.List.{list_all};
 ghost use Rattle.sas_task.specs.WellFormed.{layer_of as the_layer, is_derived as derived, is_fact as fact_test};
+ghost use Rattle.sas_task.specs.States.{holds as fact_holds, all_hold as facts_hold};
+ghost use Rattle.sas_task.specs.Within.{is_within};
 
 use crate::contents::{Fact, Variable};
 
@@ -15,6 +17,7 @@ pub fn layer_of(variables: &[Variable], var: u32) -> Option<u32>
     }
 }
 
+/// Whether a variable is derived.
 pub fn is_derived(variables: &[Variable], var: u32) -> bool
     ensures { result ≡ derived variables.now var }
 {
@@ -35,4 +38,24 @@ pub fn are_facts(variables: &[Variable], facts: &[Fact]) -> bool
     ensures { result ≡ list_all (fact_test variables.now) facts.now }
 {
     facts.iter().all(|fact| is_fact(variables, *fact))
+}
+
+fn holds(state: &[u32], fact: Fact) -> bool
+    requires { fact.var < length state.now }
+    ensures { result ≡ fact_holds state.now fact }
+{
+    state[fact.var as usize] == fact.val
+}
+
+/// Whether all facts hold in a state.
+pub fn all_hold(state: &[u32], facts: &[Fact]) -> bool
+    requires { IsTrue (list_all (is_within (length state.now)) facts.now) }
+    ensures { result ≡ facts_hold state.now facts.now }
+{
+    for fact in facts {
+        if !holds(state, *fact) {
+            return false;
+        }
+    }
+    true
 }

@@ -16,7 +16,8 @@ mod refusals;
 mod rules;
 mod task;
 
-pub use checking::{accepted, check};
+pub use checking::{accepted, check, is_good_rule};
+pub use conditions::{all_hold, is_derived};
 pub use contents::{CostKind, Effect, Fact, Operator, Parts, Rule, Variable};
 pub use limits::{
     HIGHEST_COST, HIGHEST_LAYER, LONGEST_NAME, MOST_FACTS, MOST_LISTED, MOST_OPERATORS, MOST_RULES,

@@ -1,12 +1,12 @@
 -- How runs of operators end.
-use Rattle.std.specs.Prelude.{◌≡◌, ℕ, suc, ◌-◌, ◌<◌, ◌≤◌, List, [], ◌∷◌, ◌++◌, length, take, drop, true, false, slice_index, Option, Some, None, option_and_then}
+use Rattle.std.specs.Prelude.{◌≡◌, ℕ, suc, ◌-◌, ◌<◌, ◌≤◌, List, ◌∷◌, ◌++◌, length, take, drop, true, false, slice_index, Option, Some, None}
 use Rattle.std.proofs.Common.{arith, refl, sym, ap, ◌∙◌}
 use Rattle.std.proofs.Math.Seq.{drop-cons}
 use Rattle.std.proofs.lemmas.List.{take-append-drop}
 use Rattle.sas_task.specs.declared.contents.Parts.{Parts}
-use Rattle.sas_task.specs.States.{step}
 use Rattle.sas_task.specs.Runs.{IsPlan, start_of, end_of, is_goal, cost_of}
-use Rattle.state_step.specs.Steps.{is_applicable, step-none}
+use Rattle.sas_task.specs.States.{is_applicable}
+use Rattle.sas_task.specs.Laws.{end_of-join, step-none}
 use Rattle.state_step.specs.declared.runs.RunEnd.{RunEnd}
 use Rattle.state_step.specs.declared.runs.RunEnd.TheVariants.{Goal, NoGoal, NotApplicable}
 
@@ -29,15 +29,6 @@ abbrev pub Ends : Parts → List ℕ → RunEnd → Type 0
 Ends parts ops (Goal cost) = IsPlan parts ops × (cost ≡ cost_of parts ops)
 Ends parts ops (NoGoal cost) = MissesGoal parts ops × (cost ≡ cost_of parts ops)
 Ends parts ops (NotApplicable step) = StopsAt parts ops step
-
--- where a run goes on from what it reached
-end_of-join : (parts : Parts) (start ops more : List ℕ) (mid : List ℕ) → end_of parts start ops ≡ Some mid → end_of parts start (ops ++ more) ≡ end_of parts mid more
-end_of-join parts start [] more mid is = let s : Some start ≡ Some mid = is in let e : start ≡ mid = cc in rw e refl
-end_of-join parts start (first ∷ ops) more mid is =
-    elim (step parts start first) as (λ o. option_and_then (λ next. end_of parts next ops) o ≡ Some mid → option_and_then (λ next. end_of parts next (ops ++ more)) o ≡ end_of parts mid more) [
-      | None ↦ λ e. let k : ◌≡◌ {A = Option (List ℕ)} None (Some mid) = e in cc
-      | Some next ↦ λ e. end_of-join parts next ops more mid e
-    ] is
 
 -- operators that don't reach the goal are no plan
 pub misses-plan : (parts : Parts) (ops : List ℕ) → MissesGoal parts ops → IsPlan parts ops → ⊥
