@@ -3,15 +3,10 @@ use Rattle.std.proofs.Common.{◌≡◌, ◌∙◌, sym, ap, refl, subst, ◌<�
 use Rattle.std.proofs.lemmas.List.{drop-drop, take-append-drop, length-take-le, drop_all}
 use Rattle.std.proofs.lemmas.Grind.{common_steps}
 use Rattle.std.proofs.lemmas.Bool.Decides.{nat_tests}
-use Rattle.lama_host.specs.Folder.{Told, Files, IsUntouched, WhereTold}
 use Rattle.lama_host.specs.Pieces.{Shows, Reads}
 use Rattle.candidates.specs.Whole.{whole_of, IsFrontOf}
 use Rattle.lama_host.specs.declared.files.Piece.TheVariants as piece
 use Rattle.candidates.specs.declared.reading.Whole.TheVariants.{TooLong}
-
--- a fact on what is held stays where nothing changed
-pub told_again : (before now : Told) (P : Files → Type 0) → IsUntouched before now → WhereTold now P → WhereTold before P
-told_again before now P same all files idle held = all files (ap (λ t. t.busy) same ∙ idle) (ap (λ t. t.content) same ∙ held)
 
 goes : (file bytes buf : List ℕ) (n : ℕ) → bytes ++ drop (length bytes) file ≡ file → Shows file (length bytes) buf n → n ≤ length buf →
     (bytes ++ take n buf) ++ drop (length (bytes ++ take n buf)) file ≡ file

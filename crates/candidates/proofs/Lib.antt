@@ -4,7 +4,6 @@ pub mod Fronts
 pub mod Gathered
 pub mod OneFile
 pub mod Verdicts
-pub mod Staying
 pub mod Taken
 pub mod Together
 pub mod Writing

@@ -9,7 +9,7 @@ use Rattle.sas_task.specs.declared.plans.Kept.{Kept}
 use Rattle.plan_check.specs.declared.verdicts.Verdict.{Verdict}
 use Rattle.plan_check.specs.Verdicts.{verdict_of}
 use Rattle.plan_manager.specs.Family.{family_name}
-use Rattle.plan_manager.specs.Steps.{Leaves}
+use Rattle.lama_host.specs.Steps.{Leaves}
 use Rattle.driver_core.specs.declared.events.Event.{Event}
 use Rattle.driver_core.specs.declared.settings.Setting.{Setting}
 use Rattle.driver_core.specs.Keeping.{bound_of}
@@ -21,7 +21,7 @@ use Rattle.candidates.specs.declared.reading.ReadError.TheVariants.{Failed, NoMe
 use Rattle.candidates.specs.Collecting.{Judged, judged_as, judged_of, file_of, file_at, offer_of, plans_of, candidates_of}
 use Rattle.candidates.specs.Gathering.{IsGathering, Gathers, IsOpen, WritesPlans, JudgesAt}
 use Rattle.candidates.proofs.ChildFiles.{over_judges, missing_judges, file_judges}
-use Rattle.candidates.proofs.Fronts.{told_again}
+use Rattle.lama_host.specs.StepLaws.{told_again}
 use Rattle.candidates.proofs.Together.{CollectsFile, gathers_none, leaves_none}
 
 -- nothing was judged, and nothing was done

@@ -11,7 +11,7 @@ use Rattle.plan_check.specs.declared.verdicts.Verdict.{Verdict}
 use Rattle.plan_check.specs.declared.verdicts.Verdict.TheVariants.{Good, Bad}
 use Rattle.plan_manager.specs.Family.{family_name}
 use Rattle.plan_manager.specs.Keeping.{IsPlaced, plan_number}
-use Rattle.plan_manager.specs.Steps.{Leaves}
+use Rattle.lama_host.specs.Steps.{Leaves}
 use Rattle.driver_core.specs.declared.events.Event.{Event}
 use Rattle.driver_core.specs.declared.events.Event.TheVariants.{Candidate as Offer}
 use Rattle.driver_core.specs.Keeping.{is_below}

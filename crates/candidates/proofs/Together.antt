@@ -7,7 +7,7 @@ use Rattle.lama_host.specs.Folder.{Told, Files, WhereTold, IsUntouched}
 use Rattle.lama_num.specs.Names.{child_name}
 use Rattle.sas_task.specs.declared.contents.Parts.{Parts}
 use Rattle.sas_task.specs.declared.plans.Kept.{Kept}
-use Rattle.plan_manager.specs.Steps.{Leaves}
+use Rattle.lama_host.specs.Steps.{Leaves}
 use Rattle.driver_core.specs.declared.events.Event.{Event}
 use Rattle.driver_core.specs.declared.settings.Setting.{Setting}
 use Rattle.driver_core.specs.Settings.{most_plans}

@@ -1,7 +1,7 @@
 -- How the core, the lists of a run and its folder go on with a child's files.
-use Rattle.std.specs.Prelude.{◌≡◌, ◌≢◌, ℕ, ◌+◌, ◌<◌, ◌≤◌, ◌^◌, List, [], ◌++◌, length, map, Bool, true, false, slice_get, slice_index, is_some, Option, Some, Result, Ok, Err, OnOk}
+use Rattle.std.specs.Prelude.{◌≡◌, ◌≢◌, ℕ, ◌+◌, ◌<◌, ◌≤◌, ◌^◌, List, [], ◌++◌, length, map, Bool, true, false, slice_get, slice_index, Option, Some, Result, Ok, Err, OnOk}
 use Rattle.std.specs.FinMap.{get}
-use Rattle.lama_host.specs.Folder.{Files, Told, Lengthens}
+use Rattle.lama_host.specs.Folder.{Files}
 use Rattle.lama_num.specs.Names.{part_name}
 use Rattle.sas_task.specs.declared.contents.Parts.{Parts}
 use Rattle.sas_task.specs.declared.plans.Kept.{Kept}
@@ -52,15 +52,6 @@ IsSound parts (Bad fault) = Unit {0}
 -- plans of the task are added at the end
 abbrev pub AddsPlans : Parts → List Kept → List Kept → Type 0
 AddsPlans parts before now = (more : List Kept) × (now ≡ before ++ more) × ((k : ℕ) (plan : Kept) → slice_get more k ≡ Some plan → IsPlanOf parts plan.ops plan.cost)
-
--- What stays where no child is started or waited for, whatever was answered.
-pub record Stays (before now : Told) : Type 0 where
-  pub later : before.faults ≤ now.faults
-  pub content : is_some now.content ≡ is_some before.content
-  pub moments : Lengthens before.moments now.moments
-  pub busy : now.busy ≡ before.busy
-  pub left : now.left ≡ before.left
-  pub started : now.started ≡ before.started
 
 -- a good plan costs less than the bound, and one that is dropped for its cost doesn't
 abbrev pub IsByBound : Option ℕ → Verdict → Type 0

@@ -3,10 +3,10 @@ ghost use Rattle.std.specs.Prelude.{◌≡◌, ◌≢◌, ◌≤◌, List, [], l
 ghost use Rattle.lama_host.specs.Folder.{Rose, WhereTold};
 ghost use Rattle.lama_num.specs.Names.{IsEntryNumber, child_name};
 ghost use Rattle.plan_manager.specs.Family.{family_name};
-ghost use Rattle.plan_manager.specs.Steps.{Leaves};
+ghost use Rattle.lama_host.specs.Steps.{Leaves, Stays};
 ghost use Rattle.driver_core.specs.declared.events.Event.{Event as TheEvent};
 ghost use Rattle.candidates.specs.Collecting.{Judged, child_files, judged_in, plans_of};
-ghost use Rattle.candidates.specs.Gathering.{IsGathering, Gathers, AddsPlans, Stays, WritesPlans, AreAllOrFirst, JudgesAt};
+ghost use Rattle.candidates.specs.Gathering.{IsGathering, Gathers, AddsPlans, WritesPlans, AreAllOrFirst, JudgesAt};
 
 use crate::judging::judge_file;
 use crate::keeping::take_candidate;

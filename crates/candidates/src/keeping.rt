@@ -3,12 +3,12 @@ ghost use Rattle.std.specs.Prelude.{◌≡◌, ◌<◌, ◌≤◌, ◌++◌, ℕ
 ghost use Rattle.lama_host.specs.Folder.{Rose};
 ghost use Rattle.sas_task.specs.Runs.{cost_of};
 ghost use Rattle.sas_task.specs.declared.plans.Kept.{Kept as TheKept};
-ghost use Rattle.plan_manager.specs.Steps.{Leaves};
+ghost use Rattle.lama_host.specs.Steps.{Leaves, Stays};
 ghost use Rattle.driver_core.specs.declared.events.Event.{Event as TheEvent};
 ghost use Rattle.driver_core.specs.declared.events.Event.TheVariants.{Candidate as Offer};
 ghost use Rattle.driver_core.specs.Keeping.{is_below};
 ghost use Rattle.candidates.specs.Collecting.{judged_as, offer_of, plans_of, candidates_of, real_cost as the_real_cost};
-ghost use Rattle.candidates.specs.Gathering.{IsGathering, IsOpen, IsSound, IsByBound, AddsPlans, Stays, WritesPlans};
+ghost use Rattle.candidates.specs.Gathering.{IsGathering, IsOpen, IsSound, IsByBound, AddsPlans, WritesPlans};
 
 use crate::offers::{Candidate, Found};
 use crate::reading::ReadError;

@@ -6,7 +6,7 @@ use Rattle.lama_host.specs.Folder.{Told, Files}
 use Rattle.lama_num.specs.Names.{part_name}
 use Rattle.plan_manager.specs.Family.{family_name, SameOutside}
 use Rattle.plan_manager.specs.Keeping.{IsPlaced, plan_number}
-use Rattle.plan_manager.specs.Steps.{Leaves}
+use Rattle.lama_host.specs.Steps.{Leaves}
 use Rattle.driver_core.specs.Standing.{StandsFor}
 use Rattle.driver_core.specs.States.{CoreState}
 use Rattle.driver_run.specs.Words.{base_name}

@@ -9,7 +9,8 @@ use Rattle.plan_manager.specs.Clearing.{IsCleared, LeftByClearing}
 use Rattle.plan_manager.specs.Family.{family_name, IsNoPlan, SameOutside}
 use Rattle.plan_manager.specs.FamilyLaws.{family_zero, family_numbered}
 use Rattle.plan_manager.specs.Sealing.{HoldsPlans, LeftBySealing}
-use Rattle.plan_manager.specs.Steps.{Leaves}
+use Rattle.lama_host.specs.Steps.{Leaves}
+use Rattle.lama_host.specs.StepLaws.{leaves_both, told_before}
 use Rattle.driver_run.specs.Leaves.{Holds, LeavesPlans}
 use Rattle.driver_run.specs.Words.{is_own_name, base_name}
 use Rattle.driver_run.proofs.OwnNames.{own_base, own_part, own_number}
@@ -17,18 +18,11 @@ use Rattle.driver_run.proofs.OwnNames.{own_base, own_part, own_number}
 same_files : (x y : Files) → Some x ≡ Some y → x ≡ y
 same_files x y e = cc
 
--- two facts on what was left
-left_both : (before now : Told) (P Q : Files → Files → Type 0) → Leaves before now P → Leaves before now Q → Leaves before now (λ files after. P files after × Q files after)
-left_both before now P Q first second = λ files idle held.
-    let one = first files idle held in
-    let two = second files idle held in
-    (one.0, one.1, (one.2, subst (Q files) (same_files two.0 one.0 (sym two.1 ∙ one.1)) two.2))
-
 -- a folder that was sealed
 pub sealed_plans : (before now : Told) (parts : Parts) (kept : List Kept) (base : List ℕ) → base ≡ base_name →
     Leaves before now (LeftBySealing base false parts kept) → Leaves before now (λ files after. HoldsPlans after base false parts kept) → Leaves before now (LeavesPlans (Some parts) kept)
 sealed_plans before now parts kept base is left holds = λ files idle held.
-    let both = left_both before now _ _ left holds files idle held in (
+    let both = leaves_both before now _ _ left holds files idle held in (
       both.0,
       both.1,
       record {
@@ -73,10 +67,6 @@ still_cleared before now kept same cleared = λ files idle held.
       },
     )
 
-told_before : (before now : Option Files) (files : Files) → is_some now ≡ is_some before → now ≡ Some files → (first : Files) × (before ≡ Some first)
-told_before None now files same held = let k : true ≡ false = rw held at same in cc
-told_before (Some first) now files same held = (first, refl)
-
 -- what clearing left is seen afterwards
 pub cleared_now : (before now : Told) (base : List ℕ) → base ≡ base_name → before.busy ≡ [] → is_some now.content ≡ is_some before.content → Leaves before now (λ first files. IsCleared base files) → Leaves now now (λ first files. IsCleared base_name files)
 cleared_now before now base is quiet tells cleared = λ files idle held.
@@ -102,6 +92,3 @@ held_after_clearing before now base name P is none quiet left told = λ files id
     let one = left files idle held in
     let own : is_own_name base name ≡ false = rw is none in
     subst P (one.2.outside name (not_own base name own) (not_part base name own)) (told one.0 quiet one.1)
-
-pub held_untouched : (before now : Told) (P : Files → Type 0) → IsUntouched before now → WhereTold now P → WhereTold before P
-held_untouched before now P same told = λ files idle held. told files (ap (λ t. t.busy) same ∙ idle) (ap (λ t. t.content) same ∙ held)

@@ -2,7 +2,7 @@
 ghost use Rattle.std.specs.Prelude.{◌≡◌, ◌≢◌, ◌≤◌, [], ◌∷◌, ◌++◌, ℕ, List, IfOk, IfSome, Some, None};
 ghost use Rattle.lama_host.specs.Folder.{Rose};
 ghost use Rattle.plan_manager.specs.Family.{SameOutside};
-ghost use Rattle.plan_manager.specs.Steps.{Leaves};
+ghost use Rattle.lama_host.specs.Steps.{Leaves};
 ghost use Rattle.sas_task.specs.declared.contents.Parts.{Parts as TheParts};
 ghost use Rattle.plain_search.specs.Spaces.{IsExhausted};
 ghost use Rattle.sas_task.specs.Runs.{IsPlanOf};

@@ -3,7 +3,7 @@ ghost use Rattle.std.specs.Prelude.{◌≡◌, ◌≢◌, ◌≤◌, [], ℕ, Li
 ghost use Rattle.std.specs.FinMap.{get};
 ghost use Rattle.lama_host.specs.Folder.{WhereTold, Rose};
 ghost use Rattle.plan_manager.specs.Clearing.{IsCleared};
-ghost use Rattle.plan_manager.specs.Steps.{Leaves};
+ghost use Rattle.lama_host.specs.Steps.{Leaves};
 ghost use Rattle.driver_run.specs.Leaves.{LeavesPlans};
 ghost use Rattle.driver_run.specs.Reports.{IfDone, refusal, TellsTask, KeepsPlans, EndsAs, code_of, task_code as the_task_code};
 ghost use Rattle.driver_run.specs.RunEvents.{TellsEvents, AsksClock};

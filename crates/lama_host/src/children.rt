@@ -30,7 +30,8 @@ pub trait Host: Folder {
         limits: Limits,
     ) -> Result<(), Failed>
         requires { ¬ Contains (Self.told self.old).busy slot }
-        ensures { Starts (Self.told self.old) (Self.told self.new) slot (map string_bytes words.now) input.now limits result };
+        ensures { Starts (Self.told self.old) (Self.told self.new)
+            slot (map string_bytes words.now) input.now limits result };
 
     /// Waits for the child of a slot, and frees the slot, also where it fails. The child may have
     /// changed every file.

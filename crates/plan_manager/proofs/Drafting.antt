@@ -7,8 +7,8 @@ use Rattle.lama_host.specs.Files.{get-insert_same, get-insert_other}
 use Rattle.lama_host.specs.Folder.{Told, Files, Changes, Once, Appends, growth, grown, bytes_at, last_of}
 use Rattle.lama_host.specs.Laws.{last_of-growth}
 use Rattle.plan_manager.specs.Keeping.{IsFront, IsDraft, Drafts}
-use Rattle.plan_manager.specs.StepLaws.{each-append, each_once, last_of-append, last_once, changes_then, changes_weaker}
-use Rattle.plan_manager.specs.Steps.{Each}
+use Rattle.lama_host.specs.StepLaws.{each-append, each_once, last_of-append, last_once, changes_then, changes_weaker}
+use Rattle.lama_host.specs.Steps.{Each}
 use Rattle.plan_manager.proofs.Removing.{nothing_ok}
 
 -- drafts so far, and what is left of the text

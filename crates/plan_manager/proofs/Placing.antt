@@ -10,7 +10,7 @@ use Rattle.plan_manager.specs.TextRests.{steps_text}
 use Rattle.lama_host.specs.Files.{get-insert_same, get-insert_other, get-remove_same, get-remove_other}
 use Rattle.lama_host.specs.Folder.{Told, Files, WhereTold, Changes, Keeps, Once, renamed, last_of}
 use Rattle.plan_manager.specs.Keeping.{Drafts, IsPlaced, Places}
-use Rattle.plan_manager.specs.StepLaws.{changes_then, changes_weaker}
+use Rattle.lama_host.specs.StepLaws.{changes_then, changes_weaker, told_before}
 use Rattle.plan_manager.proofs.Removing.{nothing_ok}
 
 on_err : {T E : Type 0} (result : Result T E) (P : Type 0) → P → OnErr result P
@@ -56,10 +56,6 @@ pub draft_renamed : {T E U V : Type 0} (a b c : Told) (one : Result T E) (x : T)
     Changes a b (Drafts one draft text) → Changes b c (Once two (renamed draft target)) → Changes a c (Places two draft target text)
 draft_renamed a b c one x two draft target text apart ok busy drafts once =
     changes_then a b c (Drafts one draft text) (Once two (renamed draft target)) (Places two draft target text) busy drafts once (places_by one x two draft target text apart ok)
-
-told_before : (before now : Option Files) (files : Files) → is_some now ≡ is_some before → now ≡ Some files → (held : Files) × (before ≡ Some held)
-told_before None now files same is = let k : true ≡ false = ap is_some (sym is) ∙ same in cc
-told_before (Some held) now files same is = (held, refl)
 
 there : (one two : Option Files) (last files : Files) (draft text : List ℕ) → one ≡ Some last → two ≡ Some files → one ≡ two → get last draft ≡ Some text → IsSome (get files draft)
 there one two last files draft text first second same held =

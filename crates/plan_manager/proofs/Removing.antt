@@ -7,8 +7,8 @@ use Rattle.lama_num.specs.Names.{part_name}
 use Rattle.plan_manager.specs.Clearing.{TakesPlan, TakesOne, IsCleared, Clears, ClearsFamily, TakesBetween, HasNoneBetween, ClearsBetween}
 use Rattle.plan_manager.specs.ClearingLaws.{held_or_gone}
 use Rattle.plan_manager.specs.Family.{family_name}
-use Rattle.plan_manager.specs.StepLaws.{each-append, each-weaker, each-whole, last_of-append, each_once, last_once, changes_then, changes_weaker, changes_none}
-use Rattle.plan_manager.specs.Steps.{Each}
+use Rattle.lama_host.specs.StepLaws.{each-append, each-weaker, each-whole, last_of-append, each_once, last_once, changes_then, changes_weaker, changes_none}
+use Rattle.lama_host.specs.Steps.{Each}
 
 pub removed_as : {T E : Type 0} (a b : Told) (result : Result T E) (name other : List ℕ) → name ≡ other → Changes a b (Once result (λ files. remove files name)) → Changes a b (Once result (λ files. remove files other))
 removed_as a b result name other same changes = subst (λ n. Changes a b (Once result (λ files. remove files n))) same changes

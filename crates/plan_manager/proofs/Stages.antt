@@ -15,8 +15,8 @@ use Rattle.plan_manager.specs.KeepingLaws.{drafts_beside}
 use Rattle.plan_manager.specs.FamilyLaws.{family≢part}
 use Rattle.plan_manager.specs.Sealing.{plan_at, text_at, SealStep, Draft, Place, Take, TakePart, Seals, SealsBetween, Rewrites}
 use Rattle.plan_manager.specs.SealingLaws.{steps_leave}
-use Rattle.plan_manager.specs.StepLaws.{each-append, each-weaker, each_once, last_of-append, changes_none, changes_then, changes_weaker}
-use Rattle.plan_manager.specs.Steps.{Each}
+use Rattle.lama_host.specs.StepLaws.{each-append, each-weaker, each_once, last_of-append, changes_none, changes_then, changes_weaker}
+use Rattle.lama_host.specs.Steps.{Each}
 use Rattle.plan_manager.proofs.Removing.{nothing_ok}
 
 -- a target that holds its text already

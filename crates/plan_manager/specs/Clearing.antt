@@ -4,7 +4,7 @@ use Rattle.std.specs.FinMap.{get, remove}
 use Rattle.lama_host.specs.Folder.{Files, last_of}
 use Rattle.lama_num.specs.Names.{part_name}
 use Rattle.plan_manager.specs.Family.{family_name, SameBeside, SameOutside}
-use Rattle.plan_manager.specs.Steps.{Each}
+use Rattle.lama_host.specs.Steps.{Each}
 
 -- one name of the family is taken away
 abbrev pub TakesPlan : List ℕ → Files → Files → Type 0

@@ -9,8 +9,8 @@ use Rattle.lama_host.specs.Folder.{Told, Files, Changes}
 use Rattle.lama_num.specs.Names.{part_name}
 use Rattle.plan_manager.specs.Clearing.{TakesPlan, TakesOne, HasNoPlan, IsCleared, Clears, ClearsFamily, IsHeldOrGone, LeftByClearing, LeftByClearingFamily}
 use Rattle.plan_manager.specs.Family.{family_name}
-use Rattle.plan_manager.specs.StepLaws.{each-whole, leaves_by}
-use Rattle.plan_manager.specs.Steps.{Leaves}
+use Rattle.lama_host.specs.StepLaws.{each-whole, leaves_by}
+use Rattle.lama_host.specs.Steps.{Leaves}
 
 held_or_gone_by : (b : Bool) (before : Option (List ℕ)) → (cond b None before ≡ before) ⊎ (cond b None before ≡ None)
 held_or_gone_by true before = inr refl

@@ -2,7 +2,7 @@
 use Rattle.std.specs.Prelude.{◌≡◌, ◌≢◌, ℕ, List, [], ◌∷◌, ◌++◌, Bool, if◌then◌else◌, Option, Some, None, Result, OnOk, OnErr, ◌⊎◌}
 use Rattle.std.specs.FinMap.{get}
 use Rattle.lama_host.specs.Folder.{Files, last_of}
-use Rattle.plan_manager.specs.Steps.{Each}
+use Rattle.lama_host.specs.Steps.{Each}
 
 -- no file, or a front of the text
 abbrev pub IsFront : Option (List ℕ) → List ℕ → Type 0

@@ -4,8 +4,8 @@ use Rattle.std.proofs.Common.{refl, ap, ◌∙◌, inl, inr}
 use Rattle.std.specs.FinMap.{get}
 use Rattle.lama_host.specs.Folder.{Told, Files, Changes, last_of}
 use Rattle.plan_manager.specs.Keeping.{IsDraft, IsPlaced, IsPlacedLast, Places, LeftByPlacing}
-use Rattle.plan_manager.specs.StepLaws.{each-whole, leaves_by, last_of-append}
-use Rattle.plan_manager.specs.Steps.{Each, Leaves}
+use Rattle.lama_host.specs.StepLaws.{each-whole, leaves_by, last_of-append}
+use Rattle.lama_host.specs.Steps.{Each, Leaves}
 
 -- drafts change no other name
 pub drafts_beside : (draft text : List ℕ) (files : Files) (drafts : List Files) → Each (IsDraft draft text) files drafts → (other : List ℕ) → other ≢ draft → get (last_of files drafts) other ≡ get files other

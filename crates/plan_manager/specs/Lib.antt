@@ -7,6 +7,4 @@ pub mod Keeping
 pub mod KeepingLaws
 pub mod Sealing
 pub mod SealingLaws
-pub mod StepLaws
-pub mod Steps
 pub mod TextRests

@@ -9,7 +9,7 @@ use Rattle.sas_task.specs.Runs.{cost_of}
 use Rattle.plan_text.specs.PlanText.{plan_text}
 use Rattle.plan_manager.specs.Family.{family_name, SameOutside}
 use Rattle.plan_manager.specs.Keeping.{IsDraft, IsPlaced, Places}
-use Rattle.plan_manager.specs.Steps.{Each}
+use Rattle.lama_host.specs.Steps.{Each}
 
 -- the plan of a name of the family: with many the n-th plan is that of base.n, without the only one is that of the base
 unfoldable pub plan_at : Bool → List Kept → ℕ → Option Kept

@@ -11,8 +11,8 @@ use Rattle.sas_task.specs.declared.plans.Kept.{Kept}
 use Rattle.plan_manager.specs.Family.{family_name}
 use Rattle.plan_manager.specs.FamilyLaws.{family_same, family≢part}
 use Rattle.plan_manager.specs.Sealing.{SealStep, Draft, Place, Take, TakePart, Seals, LeftBySealing, HoldsPlans, text_at}
-use Rattle.plan_manager.specs.StepLaws.{each-whole, leaves_by}
-use Rattle.plan_manager.specs.Steps.{Each, Leaves}
+use Rattle.lama_host.specs.StepLaws.{each-whole, leaves_by}
+use Rattle.lama_host.specs.Steps.{Each, Leaves}
 
 same_or_not : (j k : ℕ) → (j ≡ k) ⊎ (j ≢ k)
 same_or_not j k = elim (nat_eq j k) as (λ b. nat_eq j k ≡ b → (j ≡ k) ⊎ (j ≢ k)) [

@@ -5,7 +5,7 @@ ghost use Rattle.lama_host.specs.Folder.{Keeps, Changes, Once};
 ghost use Rattle.lama_num.specs.Names.{IsEntryNumber, child_name};
 ghost use Rattle.plan_manager.specs.Clearing.{Clears, ClearsFamily, ClearsBetween, LeftByClearing, LeftByClearingFamily, IsCleared, HasNoPlan};
 ghost use Rattle.plan_manager.specs.Family.{family_name};
-ghost use Rattle.plan_manager.specs.Steps.{Leaves};
+ghost use Rattle.lama_host.specs.Steps.{Leaves};
 
 use lama_host::{Failed, Folder};
 use lama_num::NameBuf;

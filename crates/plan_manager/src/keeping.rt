@@ -6,7 +6,7 @@ ghost use Rattle.plan_text.specs.PlanText.{plan_text};
 ghost use Rattle.sas_task.specs.Runs.{cost_of};
 ghost use Rattle.plan_manager.specs.Family.{family_name};
 ghost use Rattle.plan_manager.specs.Keeping.{Drafts, IsPlaced, Places, LeftByPlacing, plan_number};
-ghost use Rattle.plan_manager.specs.Steps.{Leaves};
+ghost use Rattle.lama_host.specs.Steps.{Leaves};
 ghost use Rattle.plan_manager.specs.TextRests.{text_left};
 
 use crate::text::{TextRest, Window, cost_text};

@@ -6,7 +6,7 @@ ghost use Rattle.plan_text.specs.PlanText.{plan_text};
 ghost use Rattle.sas_task.specs.declared.plans.Kept.{Kept};
 ghost use Rattle.plan_manager.specs.Family.{family_name};
 ghost use Rattle.plan_manager.specs.Sealing.{HoldsPlans, IsWritable, AreWritable, Seals, LeftBySealing, Rewrites, SealsBetween};
-ghost use Rattle.plan_manager.specs.Steps.{Leaves};
+ghost use Rattle.lama_host.specs.Steps.{Leaves};
 
 use crate::clearing::{END, remove_names};
 use crate::comparing::holds;

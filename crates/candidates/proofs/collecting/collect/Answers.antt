@@ -2,7 +2,7 @@ use Rattle.std.proofs.Common.{◌≡◌, ◌∙◌, [], ◌++◌, Bool, true, fa
 use Rattle.candidates.specs.Collecting.{Judged, offer_of}
 use Rattle.candidates.specs.Gathering.{IsGathering}
 use Rattle.candidates.proofs.Adding.{no_plans_added, adds_then}
-use Rattle.candidates.proofs.Staying.{stays_same, stays_then}
+use Rattle.lama_host.specs.StepLaws.{stays_same, stays_then}
 use Rattle.candidates.proofs.Together.{at_first, now_gathering, collected_next, ends_early, ends_fully, ends_last}
 use Rattle.candidates.proofs.collecting.collect.Goals as goal
 

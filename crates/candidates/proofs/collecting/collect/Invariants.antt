@@ -1,7 +1,8 @@
 use Rattle.std.proofs.Common.{◌≡◌, ◌≤◌, List, []}
 use Rattle.driver_core.specs.declared.events.Event.{Event}
 use Rattle.candidates.specs.Collecting.{Judged}
-use Rattle.candidates.specs.Gathering.{IsGathering, AddsPlans, Stays}
+use Rattle.lama_host.specs.Steps.{Stays}
+use Rattle.candidates.specs.Gathering.{IsGathering, AddsPlans}
 use Rattle.candidates.proofs.Together.{HasCollected}
 use Rattle.candidates.proofs.collecting.collect.Given as goal
 

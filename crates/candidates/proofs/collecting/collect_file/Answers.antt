@@ -2,7 +2,7 @@ use Rattle.std.proofs.Common.{◌≡◌, ◌∙◌, sym, ap, subst, refl, Some, 
 use Rattle.driver_core.specs.States.{CoreState}
 use Rattle.candidates.specs.Gathering.{IsOpen}
 use Rattle.candidates.proofs.Adding.{no_plans_added}
-use Rattle.candidates.proofs.Staying.{stays_same, stays_untouched, stays_then}
+use Rattle.lama_host.specs.StepLaws.{stays_same, stays_untouched, stays_then}
 use Rattle.candidates.proofs.OneFile.{over_done, failed_done, missing_done, found_done, unfinished_done}
 use Rattle.candidates.proofs.collecting.collect_file.Goals as goal
 

@@ -3,7 +3,7 @@ use Rattle.driver_core.specs.declared.events.Event.TheVariants.{Candidate as Off
 use Rattle.plan_text.specs.PlanText.{plan_text}
 use Rattle.candidates.specs.Gathering.{IsGathering}
 use Rattle.candidates.proofs.Gathered.{plan_kept}
-use Rattle.candidates.proofs.Staying.{stays_same, stays_kept}
+use Rattle.lama_host.specs.StepLaws.{stays_same, stays_kept}
 use Rattle.candidates.proofs.Taken.{where_ok, plan_writes}
 use Rattle.candidates.proofs.keeping.keep_candidate.Goals as goal
 

@@ -1,10 +1,10 @@
 use Rattle.std.proofs.Common.{◌≡◌, ◌∙◌, ap, sym, subst, length, List, [], ◌∷◌, ◌++◌, Some, refl}
-use Rattle.plan_manager.specs.Steps.{Leaves}
+use Rattle.lama_host.specs.Steps.{Leaves}
 use Rattle.driver_core.specs.declared.events.Event.TheVariants.{Candidate as Offer}
 use Rattle.candidates.specs.Collecting.{judged_as, offer_of, real_cost}
 use Rattle.candidates.specs.Gathering.{IsGathering, IsByBound, WritesPlans}
 use Rattle.candidates.proofs.Adding.{no_plans_added, taken_adds}
-use Rattle.candidates.proofs.Staying.{stays_same}
+use Rattle.lama_host.specs.StepLaws.{stays_same}
 use Rattle.candidates.proofs.Taken.{on_ok_so, good_plans, good_candidates, good_offer, good_bound, bad_plans, bad_candidates, bad_offer, bad_bound}
 use Rattle.candidates.proofs.Together.{leaves_none}
 use Rattle.candidates.proofs.keeping.take_candidate.Goals as goal

@@ -5,7 +5,7 @@ use Rattle.driver_run.specs.Entries.{IsRunReport, AsksFrom}
 use Rattle.driver_run.specs.Leaves.{LeavesPlans}
 use Rattle.driver_run.specs.Reports.{TellsTask}
 use Rattle.driver_run.specs.RunEvents.{AsksClock}
-use Rattle.plan_manager.specs.Steps.{Leaves}
+use Rattle.lama_host.specs.Steps.{Leaves}
 use Rattle.driver_run.proofs.Leaving.{cleared_now, plans_cleared, held_after_clearing}
 use Rattle.driver_run.proofs.Reporting.{asked_first}
 use Rattle.driver_run.proofs.Tells.{if_ok_weaker, if_ok_from_both}

@@ -5,7 +5,7 @@ use Rattle.driver_run.specs.declared.report.Why.TheVariants.{Fault}
 use Rattle.driver_run.specs.Entries.{IsEntryReport, AsksOnce}
 use Rattle.driver_run.specs.Leaves.{LeavesPlans}
 use Rattle.driver_run.specs.Reports.{TellsTask}
-use Rattle.plan_manager.specs.Steps.{Leaves}
+use Rattle.lama_host.specs.Steps.{Leaves}
 use Rattle.driver_run.proofs.Leaving.{plans_untouched, still_cleared}
 use Rattle.driver_run.proofs.Tells.{if_ok_weaker, told_when_solved}
 use Rattle.driver_run.proofs.running.run_task.Goals as goal

@@ -1,8 +1,10 @@
 -- Laws of steps: one call after another.
-use Rattle.std.specs.Prelude.{◌≡◌, ℕ, ◌≤◌, List, [], ◌∷◌, ◌++◌, Some, Option, Result, Ok, Err, OnErr, IsErr}
+use Rattle.std.specs.Prelude.{◌≡◌, ℕ, ◌≤◌, List, [], ◌∷◌, ◌++◌, Option, Some, None, is_some, Bool, true, false, Result, Ok, Err, OnErr, IsErr}
 use Rattle.std.proofs.Common.{refl, ap, sym, ◌∙◌, subst, inl, inr, arith, append_assoc, append-nil}
 use Rattle.lama_host.specs.Folder.{Told, Files, WhereTold, Changes, Once, Passes, Keeps, Lengthens, Rose, IsUntouched, last_of}
-use Rattle.plan_manager.specs.Steps.{Each, Leaves}
+use Rattle.lama_host.specs.Steps.{Each, Leaves, Stays}
+
+-- lists of steps
 
 pub last_of-append : (files : Files) (steps more : List Files) → last_of files (steps ++ more) ≡ last_of (last_of files steps) more
 last_of-append files [] more = refl
@@ -21,6 +23,22 @@ pub each-whole : (Follows Whole : Files → Files → Type 0) → ((files : File
     (files : Files) (steps : List Files) → Each Follows files steps → Whole files (last_of files steps)
 each-whole Follows Whole none one files [] each = none files
 each-whole Follows Whole none one files (step ∷ steps) each = one files step (last_of step steps) each.0 (each-whole Follows Whole none one step steps each.1)
+
+each_one : (Follows : Files → Files → Type 0) (files after : Files) (steps : List Files) → Follows files after → steps ≡ after ∷ [] → Each Follows files steps
+each_one Follows files after steps follows is = subst (Each Follows files) (sym is) (follows, tt)
+
+-- a call of one step, which may have failed
+pub each_once : {T E : Type 0} (result : Result T E) (Follows : Files → Files → Type 0) (after : Files → Files) (files : Files) (steps : List Files) → Follows files (after files) → Once result after files steps → Each Follows files steps
+each_once (Ok x) Follows after files steps follows once = each_one Follows files (after files) steps follows once.0
+each_once (Err e) Follows after files steps follows once = elim once.1 [
+  | inl none ↦ subst (Each Follows files) (sym none) tt
+  | inr one ↦ each_one Follows files (after files) steps follows one
+]
+
+pub last_once : {T E : Type 0} (result : Result T E) (x : T) (after : Files → Files) (files : Files) (steps : List Files) → result ≡ Ok x → Once result after files steps → last_of files steps ≡ after files
+last_once result x after files steps ok once = ap (last_of files) (rw ok at once).0
+
+-- what is told
 
 passes_none : (told : Told) (files : Files) → told.content ≡ Some files → Passes told told files []
 passes_none told files held = record { content = held; moments = λ past is. is ∙ ap Some (sym (append-nil past)) }
@@ -48,12 +66,6 @@ changes_weaker a b P Q so first files idle held =
     let one = first files idle held in
     (one.0, so files one.0 one.1, one.2)
 
--- what the steps say of the last
-pub leaves_by : (a b : Told) (P : Files → List Files → Type 0) (Q : Files → Files → Type 0) → ((files : Files) (steps : List Files) → P files steps → Q files (last_of files steps)) → Changes a b P → Leaves a b Q
-leaves_by a b P Q so first files idle held =
-    let one = first files idle held in
-    (last_of files one.0, one.2.content, so files one.0 one.1)
-
 -- where nothing was touched there is no step
 pub changes_untouched : (a b : Told) (P : Files → List Files → Type 0) → IsUntouched a b → ((files : Files) → P files []) → Changes a b P
 changes_untouched a b P same so files idle held = (
@@ -64,6 +76,39 @@ changes_untouched a b P same so files idle held = (
     moments = λ past is. ap (λ t. t.moments) same ∙ is ∙ ap Some (sym (append-nil past));
   },
 )
+
+-- what the steps say of the last
+pub leaves_by : (a b : Told) (P : Files → List Files → Type 0) (Q : Files → Files → Type 0) → ((files : Files) (steps : List Files) → P files steps → Q files (last_of files steps)) → Changes a b P → Leaves a b Q
+leaves_by a b P Q so first files idle held =
+    let one = first files idle held in
+    (last_of files one.0, one.2.content, so files one.0 one.1)
+
+-- two facts on what was left
+pub leaves_both : (a b : Told) (P Q : Files → Files → Type 0) → Leaves a b P → Leaves a b Q → Leaves a b (λ files after. P files after × Q files after)
+leaves_both a b P Q first second files idle held =
+    let one = first files idle held in
+    let two = second files idle held in
+    (one.0, one.1, (one.2, subst (Q files) (same_files two.0 one.0 (sym two.1 ∙ one.1)) two.2))
+  where
+    same_files : (x y : Files) → Some x ≡ Some y → x ≡ y
+    same_files x y same = cc
+
+pub untouched_then : (a b c : Told) → IsUntouched a b → IsUntouched b c → IsUntouched a c
+untouched_then a b c first second = let again : Told → Told = λ t. record t { faults = c.faults } in second ∙ ap again first
+
+-- a fact on what is held stays where nothing was touched
+pub told_again : (a b : Told) (P : Files → Type 0) → IsUntouched a b → WhereTold b P → WhereTold a P
+told_again a b P same all files idle held = all files (ap (λ t. t.busy) same ∙ idle) (ap (λ t. t.content) same ∙ held)
+
+-- what is told was told before
+pub told_before : (before now : Option Files) (files : Files) → is_some now ≡ is_some before → now ≡ Some files → (first : Files) × (before ≡ Some first)
+told_before None now files same held = let k : true ≡ false = rw held at same in cc
+told_before (Some first) now files same held = (first, refl)
+
+-- what is kept
+
+lengthens_none : (before now : Option (List Files)) → now ≡ before → Lengthens before now
+lengthens_none before now same = record { tells = ap is_some same; grows = λ past is. ([], same ∙ is ∙ ap Some (sym (append-nil past))) }
 
 lengthens_then : (a b c : Option (List Files)) → Lengthens a b → Lengthens b c → Lengthens a c
 lengthens_then a b c first second = record {
@@ -110,25 +155,11 @@ keeps_none a x = record {
   later = omega arith;
   failed = tt;
   content = refl;
-  moments = record { tells = refl; grows = λ past is. ([], is ∙ ap Some (sym (append-nil past))) };
+  moments = lengthens_none a.moments a.moments refl;
   busy = refl;
   left = refl;
   started = refl;
 }
-
-pub each_one : (Follows : Files → Files → Type 0) (files after : Files) (steps : List Files) → Follows files after → steps ≡ after ∷ [] → Each Follows files steps
-each_one Follows files after steps follows is = subst (Each Follows files) (sym is) (follows, tt)
-
--- a call of one step, which may have failed
-pub each_once : {T E : Type 0} (result : Result T E) (Follows : Files → Files → Type 0) (after : Files → Files) (files : Files) (steps : List Files) → Follows files (after files) → Once result after files steps → Each Follows files steps
-each_once (Ok x) Follows after files steps follows once = each_one Follows files (after files) steps follows once.0
-each_once (Err e) Follows after files steps follows once = elim once.1 [
-  | inl none ↦ subst (Each Follows files) (sym none) tt
-  | inr one ↦ each_one Follows files (after files) steps follows one
-]
-
-pub last_once : {T E : Type 0} (result : Result T E) (x : T) (after : Files → Files) (files : Files) (steps : List Files) → result ≡ Ok x → Once result after files steps → last_of files steps ≡ after files
-last_once result x after files steps ok once = ap (last_of files) (rw ok at once).0
 
 -- the same failure, answered again
 pub keeps_failed : {T E U V : Type 0} (a b : Told) (one : Result T E) (two : Result U V) (e : E) → IsErr two → one ≡ Err e → Keeps a b one → Keeps a b two
@@ -143,9 +174,37 @@ keeps_failed a b one (Err f) e failed was first = record {
   started = first.started;
 }
 
-pub untouched_then : (a b c : Told) → IsUntouched a b → IsUntouched b c → IsUntouched a c
-untouched_then a b c first second = let again : Told → Told = λ t. record t { faults = c.faults } in second ∙ ap again first
+-- what stays
 
--- a fact on what is held stays where nothing was touched
-pub told_again : (a b : Told) (P : Files → Type 0) → IsUntouched a b → WhereTold b P → WhereTold a P
-told_again a b P same all files idle held = all files (ap (λ t. t.busy) same ∙ idle) (ap (λ t. t.content) same ∙ held)
+pub stays_untouched : (before now : Told) → IsUntouched before now → before.faults ≤ now.faults → Stays before now
+stays_untouched before now same later = record {
+  later = later;
+  content = ap (λ t. is_some t.content) same;
+  moments = lengthens_none before.moments now.moments (ap (λ t. t.moments) same);
+  busy = ap (λ t. t.busy) same;
+  left = ap (λ t. t.left) same;
+  started = ap (λ t. t.started) same;
+}
+
+pub stays_same : (told : Told) → Stays told told
+stays_same told = stays_untouched told told refl (omega arith)
+
+pub stays_kept : {T E : Type 0} (before now : Told) (result : Result T E) → Keeps before now result → Stays before now
+stays_kept before now result keeps = record {
+  later = keeps.later;
+  content = keeps.content;
+  moments = keeps.moments;
+  busy = keeps.busy;
+  left = keeps.left;
+  started = keeps.started;
+}
+
+pub stays_then : (a b c : Told) → Stays a b → Stays b c → Stays a c
+stays_then a b c first second = record {
+  later = omega (arith, first.later, second.later);
+  content = second.content ∙ first.content;
+  moments = lengthens_then a.moments b.moments c.moments first.moments second.moments;
+  busy = second.busy ∙ first.busy;
+  left = second.left ∙ first.left;
+  started = second.started ∙ first.started;
+}
