@@ -1,7 +1,9 @@
 -- What is made of a candidate by its verdict.
 use Rattle.std.specs.Prelude.{OnOk, is_err}
 use Rattle.std.proofs.Common.{◌≡◌, ℕ, ◌+◌, true, false, List, [], ◌∷◌, Option, Some, Result, Ok, Err, Bool, refl, sym, ap, subst, ◌∙◌}
-use Rattle.lama_host.specs.Folder.{Told}
+use Rattle.lama_host.specs.declared.files.Failed.{Failed}
+use Rattle.lama_host.specs.Folder.{Told, Changes, last_of}
+use Rattle.lama_host.specs.StepLaws.{leaves_by}
 use Rattle.lama_num.specs.Names.{part_name}
 use Rattle.sas_task.specs.declared.contents.Parts.{Parts}
 use Rattle.sas_task.specs.declared.plans.Kept.{Kept}
@@ -10,7 +12,8 @@ use Rattle.plan_check.specs.declared.verdicts.PlanFault.{PlanFault}
 use Rattle.plan_check.specs.declared.verdicts.Verdict.{Verdict}
 use Rattle.plan_check.specs.declared.verdicts.Verdict.TheVariants.{Good, Bad}
 use Rattle.plan_manager.specs.Family.{family_name}
-use Rattle.plan_manager.specs.Keeping.{IsPlaced, plan_number}
+use Rattle.plan_manager.specs.Keeping.{IsPlaced, PlacesPlan, plan_number}
+use Rattle.plan_manager.specs.Laws.{placing_places}
 use Rattle.lama_host.specs.Steps.{Leaves}
 use Rattle.driver_core.specs.declared.events.Event.{Event}
 use Rattle.driver_core.specs.declared.events.Event.TheVariants.{Candidate as Offer}
@@ -25,16 +28,19 @@ pub on_ok_so : {T E : Type 0} (result : Result T E) (P Q : Type 0) → OnOk resu
 on_ok_so (Ok x) P Q holds so = so holds
 on_ok_so (Err e) P Q holds so = tt
 
-pub where_ok : {T E : Type 0} (result : Result T E) (P : Type 0) → is_err result ≡ false → OnOk result P → P
-where_ok (Ok x) P is holds = holds
-where_ok (Err e) P is holds = let no : true ≡ false = is in cc
+-- a plan that was placed
+pub places_ok : {E : Type 0} (result : Result (Unit {0}) E) (base : List ℕ) (many : Bool) (number : ℕ) (text : List ℕ) (before now : Told) → is_err result ≡ false
+    → Changes before now (PlacesPlan result base many number text) → Changes before now (PlacesPlan {T = Unit {0}} {E = Failed} (Ok tt) base many number text)
+places_ok (Ok x) base many number text before now is changes = changes
+places_ok (Err e) base many number text before now is changes = let no : true ≡ false = is in cc
 
 -- a plan that is placed is written
 pub plan_writes : (base : List ℕ) (many : Bool) (parts : Parts) (count number : ℕ) (plan : Kept) (before now : Told) → number ≡ count + 1
-    → Leaves before now (IsPlaced (part_name base) (family_name base (plan_number many number)) (plan_text parts plan.ops)) → Leaves before now (WritesPlans base many parts count (plan ∷ []))
-plan_writes base many parts count number plan before now is leaves files idle held =
-    let left = leaves files idle held in
-    (left.0, left.1, one_plan_written base many parts count plan files left.0 (subst (λ k. IsPlaced (part_name base) (family_name base (plan_number many k)) (plan_text parts plan.ops) files left.0) is left.2))
+    → Changes before now (PlacesPlan {T = Unit {0}} {E = Failed} (Ok tt) base many number (plan_text parts plan.ops)) → Leaves before now (WritesPlans base many parts count (plan ∷ []))
+plan_writes base many parts count number plan before now is = leaves_by before now (PlacesPlan {T = Unit {0}} {E = Failed} (Ok tt) base many number (plan_text parts plan.ops)) (WritesPlans base many parts count (plan ∷ []))
+    (λ files steps places. one_plan_written base many parts count plan files (last_of files steps)
+    (subst (λ k. IsPlaced (part_name base) (family_name base (plan_number many k)) (plan_text parts plan.ops) files (last_of files steps)) is
+    (placing_places {T = Unit {0}} Failed tt (part_name base) (family_name base (plan_number many number)) (plan_text parts plan.ops) files steps places)))
 
 candidates_of-one : (entry count file : ℕ) (verdict : Verdict) → candidates_of entry count (judged_as file verdict ∷ []) ≡ candidate_of entry count (judged_as file verdict) ∷ []
 unfolding candidates_of

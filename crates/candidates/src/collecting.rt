@@ -2,7 +2,6 @@
 ghost use Rattle.std.specs.Prelude.{◌≡◌, ◌≢◌, ◌≤◌, List, [], length, true, false};
 ghost use Rattle.lama_host.specs.Folder.{Rose, WhereTold};
 ghost use Rattle.lama_num.specs.Names.{IsEntryNumber, child_name};
-ghost use Rattle.plan_manager.specs.Family.{family_name};
 ghost use Rattle.lama_host.specs.Steps.{Leaves, Stays};
 ghost use Rattle.driver_core.specs.declared.events.Event.{Event as TheEvent};
 ghost use Rattle.candidates.specs.Collecting.{Judged, child_files, judged_in, plans_of};
@@ -15,25 +14,12 @@ use crate::reading::ReadError;
 use driver_core::Core;
 use lama_host::Folder;
 use lama_num::NameBuf;
+use plan_manager::FamilyFile;
 use sas_task::{Kept, Task};
 use std::alloc::Global;
 
 /// The numbers of a child's files end here.
 const END: u32 = 10_000;
-
-/// The name of a file of a child: number 0 is `base.cE`, and number n is `base.cE.n`.
-fn file_name(base: &NameBuf, entry: u32, number: u32) -> NameBuf
-    requires short { length base.now ≤ 200 }
-    requires entry { IsEntryNumber entry }
-    requires number { number ≤ 9999 }
-    ensures { result ≡ family_name (child_name base.now entry) number }
-{
-    let child = base.child(entry);
-    if number == 0 {
-        return child;
-    }
-    child.numbered(number)
-}
 
 /// Judges the file of a number, if it is there and the run isn't over, and keeps its plan or drops it.
 /// It tells whether to go on to the next number.
@@ -69,9 +55,10 @@ fn collect_file<F: Folder>(
     if core.is_over() {
         return Ok(false);
     }
-    let name = file_name(base, entry, number);
+    let child = base.child(entry);
+    let name = FamilyFile::new(&child, number);
     let bound = core.bound();
-    let Some(verdict) = judge_file(alloc, folder, task, name.text(), bound)? else {
+    let Some(verdict) = judge_file(alloc, folder, task, name.name(), bound)? else {
         return Ok(number == 0);
     };
     take_candidate(

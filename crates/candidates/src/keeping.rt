@@ -1,7 +1,6 @@
 // Keeping a candidate, or dropping it.
 ghost use Rattle.std.specs.Prelude.{◌≡◌, ◌<◌, ◌≤◌, ◌++◌, ℕ, List, [], ◌∷◌, length, OnOk, OnErr, Option, Some, true, false, vec_len, vec_capacity};
 ghost use Rattle.lama_host.specs.Folder.{Rose};
-ghost use Rattle.sas_task.specs.Runs.{cost_of};
 ghost use Rattle.sas_task.specs.declared.plans.Kept.{Kept as TheKept};
 ghost use Rattle.lama_host.specs.Steps.{Leaves, Stays};
 ghost use Rattle.driver_core.specs.declared.events.Event.{Event as TheEvent};
@@ -56,7 +55,6 @@ fn keep_candidate<F: Folder>(
     requires short { length base.now ≤ 200 }
     requires room { length kept.old.items < 9999 }
     requires single { many ≡ false → length kept.old.items ≡ 0 }
-    requires cost { plan.cost ≡ cost_of task.now plan.ops }
     ensures stays { Stays (F.told folder.old) (F.told folder.new) }
     ensures failed { result ≡ Err ReadError.Failed → Rose (F.told folder.old).faults (F.told folder.new).faults }
     ensures setting { core.new.setting ≡ core.old.setting }

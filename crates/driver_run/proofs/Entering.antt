@@ -1,11 +1,14 @@
 -- The one entry as events of the core, and what its report tells.
-use Rattle.std.proofs.Common.{◌≡◌, ◌≢◌, ◌∙◌, sym, ap, subst, refl, ℕ, zero, suc, ◌≤◌, List, [], ◌∷◌, ◌++◌, Bool, true, false, slice_get, Some, None, arith}
+use Rattle.std.proofs.Common.{◌≡◌, ◌≢◌, ◌∙◌, sym, ap, subst, refl, ℕ, zero, suc, ◌≤◌, List, [], ◌∷◌, ◌++◌, Bool, true, false, slice_get, Some, None, Ok, arith}
 use Rattle.std.proofs.lemmas.List.Elements.{All-cons, All-nil}
 use Rattle.std.specs.FinMap.{get}
-use Rattle.lama_host.specs.Folder.{Told, Files}
+use Rattle.lama_host.specs.declared.files.Failed.{Failed}
+use Rattle.lama_host.specs.Folder.{Told, Files, Changes, last_of}
+use Rattle.lama_host.specs.StepLaws.{leaves_by}
 use Rattle.lama_num.specs.Names.{part_name}
-use Rattle.plan_manager.specs.Family.{family_name, SameOutside}
-use Rattle.plan_manager.specs.Keeping.{IsPlaced, plan_number}
+use Rattle.plan_manager.specs.Family.{SameOutside}
+use Rattle.plan_manager.specs.Keeping.{PlacesPlan, plan_file}
+use Rattle.plan_manager.specs.Laws.{placing_places}
 use Rattle.lama_host.specs.Steps.{Leaves}
 use Rattle.driver_core.specs.Standing.{StandsFor}
 use Rattle.driver_core.specs.States.{CoreState}
@@ -56,10 +59,11 @@ pub stands_offered : (core next : CoreState) (start began cost : ℕ) → core.s
 stands_offered core next start began cost set stands step = step (Began 1 began ∷ []) stands (subst (λ s. IsAllowed s (Began 1 began ∷ []) (Candidate 1 (Some cost))) (sym set) (may_offer start began cost))
 
 -- a plan that was placed under the base changes nothing outside
-pub kept_outside : (before now : Told) (base text : List ℕ) → base ≡ base_name → Leaves before now (IsPlaced (part_name base) (family_name base (plan_number false 1)) text) → Leaves before now (SameOutside base_name)
-kept_outside before now base text is placed = λ files idle held.
-    let left = placed files idle held in
-    (left.0, left.1, subst (λ b. SameOutside b files left.0) is (λ name other part. left.2.others name part (other 0 (omega arith))))
+pub kept_outside : (before now : Told) (base text : List ℕ) → base ≡ base_name → Changes before now (PlacesPlan {T = Unit {0}} {E = Failed} (Ok tt) base false 1 text) → Leaves before now (SameOutside base_name)
+kept_outside before now base text is = leaves_by before now (PlacesPlan {T = Unit {0}} {E = Failed} (Ok tt) base false 1 text) (SameOutside base_name)
+    (λ files steps places.
+    let placed = placing_places {T = Unit {0}} Failed tt (part_name base) (plan_file base false 1) text files steps places in
+    subst (λ b. SameOutside b files (last_of files steps)) is (λ name other part. placed.others name part (other 0 (omega arith))))
 
 -- the one element of a list of one
 only : {A : Type 0} (x y : A) (k : ℕ) → slice_get (x ∷ []) k ≡ Some y → x ≡ y
@@ -94,7 +98,7 @@ solved_by_plan parts times ops cost code plan later is = record {
   };
   code = is;
   began = refl;
-  writable = λ k kept at. rw (← (only (record { entry = 1; ops = ops; cost = cost }) kept k at)) (record { cost = plan.cost_is; few = plan.few });
+  steps = λ k kept at. rw (← (only (record { entry = 1; ops = ops; cost = cost }) kept k at)) plan.few;
 }
 
 -- with the whole space
@@ -122,5 +126,5 @@ solved_by_space parts times space code whole none later is = record {
   };
   code = is;
   began = refl;
-  writable = λ k kept at. absurd (none_at kept k at);
+  steps = λ k kept at. absurd (none_at kept k at);
 }

@@ -1,8 +1,7 @@
 -- What the report of a run tells whose one entry began.
 use Rattle.std.specs.Prelude.{◌≡◌, ◌≢◌, ℕ, ◌≤◌, List, [], ◌∷◌, ◌++◌, length, map, slice_get, Option, Some}
 use Rattle.sas_task.specs.declared.contents.Parts.{Parts}
-use Rattle.sas_task.specs.declared.plans.Kept.{Kept}
-use Rattle.plan_manager.specs.Sealing.{IsWritable}
+use Rattle.plan_manager.specs.Sealing.{HaveFewSteps}
 use Rattle.driver_run.specs.declared.entry.Times.{Times}
 use Rattle.driver_run.specs.declared.entry.Solved.{Solved}
 use Rattle.driver_run.specs.declared.report.Report.{Report}
@@ -30,7 +29,7 @@ pub record IsSolved (parts : Parts) (times : Times) (solved : Solved) : Type 0 w
   pub events : TellsEvents (report_of parts times.start solved)
   pub code : solved.code ≡ code_of Finished solved.kept solved.ends
   pub began : map (λ (end : EntryEnd). end.began) solved.ends ≡ times.began ∷ []
-  pub writable : (k : ℕ) (plan : Kept) → slice_get solved.kept k ≡ Some plan → IsWritable parts plan
+  pub steps : HaveFewSteps solved.kept
 
 -- The same of a report, which may be that of a fault.
 pub record IsEntryReport (parts : Parts) (times : Times) (report : Report) : Type 0 where

@@ -6,4 +6,3 @@ pub mod Placing
 pub mod Fronts
 pub mod Lengths
 pub mod Stages
-pub mod Plans

@@ -1,12 +1,9 @@
 -- A draft is renamed.
-use Rattle.std.proofs.Common.{◌≡◌, ◌≢◌, ◌∙◌, sym, ap, subst, refl, ℕ, List, ◌++◌, Bool, true, false, Option, Some, None, is_some, IsSome, Result, Ok, Err, IsErr, OnErr, inl, inr, append-nil}
+use Rattle.std.proofs.Common.{◌≡◌, ◌≢◌, ◌∙◌, sym, ap, subst, refl, ℕ, ◌≤◌, List, ◌++◌, Bool, true, false, Option, Some, None, is_some, IsSome, Result, Ok, Err, IsErr, OnErr, inl, inr, append-nil}
 use Rattle.std.specs.FinMap.{get, insert, remove}
-use Rattle.sas_task.specs.declared.contents.Parts.{Parts}
-use Rattle.sas_task.specs.declared.plans.Kept.{Kept}
-use Rattle.sas_task.specs.Costs.{is_unit_cost}
-use Rattle.sas_task.specs.Runs.{cost_of}
-use Rattle.plan_text.specs.PlanText.{cost_line, plan_text}
-use Rattle.plan_manager.specs.TextRests.{steps_text}
+use Rattle.lama_num.specs.Names.{part_name}
+use Rattle.plan_manager.specs.Family.{family_name}
+use Rattle.plan_manager.specs.FamilyLaws.{family≢part}
 use Rattle.lama_host.specs.Files.{get-insert_same, get-insert_other, get-remove_same, get-remove_other}
 use Rattle.lama_host.specs.Folder.{Told, Files, WhereTold, Changes, Keeps, Once, renamed, last_of}
 use Rattle.plan_manager.specs.Keeping.{Drafts, IsPlaced, Places}
@@ -71,10 +68,9 @@ draft_there a b result x draft text ok keeps changes files idle held =
     let one = changes first.0 (sym keeps.busy ∙ idle) first.1 in
     there b.content b.content (last_of first.0 one.0) files draft text one.2.content held refl (rw ok at one.1).1
 
--- the steps' lines and the last one are the text
-pub whole_text : (parts : Parts) (kept : Kept) (text ops line : List ℕ) {unit : Bool} → text ≡ steps_text parts ops ++ line → ops ≡ kept.ops → line ≡ cost_line unit kept.cost → unit ≡ is_unit_cost parts → kept.cost ≡ cost_of parts kept.ops → text ≡ plan_text parts kept.ops
-whole_text parts kept text ops line {unit} is same last kind cost =
-    is ∙ ap (λ o. steps_text parts o ++ line) same ∙ ap (λ l. steps_text parts kept.ops ++ l) (last ∙ ap (λ u. cost_line u kept.cost) kind ∙ ap (cost_line (is_unit_cost parts)) cost)
+-- a name of the family isn't the draft's
+pub apart : (base target draft : List ℕ) (number : ℕ) → number ≤ 9999 → target ≡ family_name base number → draft ≡ part_name base → target ≢ draft
+apart base target draft number high first second same = family≢part base number high (sym first ∙ same ∙ second)
 
 -- the same under other names
 pub places_as : {T E : Type 0} (a b : Told) (result : Result T E) (draft target text part name : List ℕ) → draft ≡ part → target ≡ name → Changes a b (Places result draft target text) → Changes a b (Places result part name text)

@@ -5,7 +5,7 @@ use Rattle.lama_host.specs.Files.{get-remove_same}
 use Rattle.lama_host.specs.Folder.{Told, Files, Changes, Once, last_of}
 use Rattle.lama_num.specs.Names.{part_name}
 use Rattle.plan_manager.specs.Clearing.{TakesPlan, TakesOne, IsCleared, Clears, ClearsFamily, TakesBetween, HasNoneBetween, ClearsBetween}
-use Rattle.plan_manager.specs.ClearingLaws.{held_or_gone}
+use Rattle.plan_manager.specs.Laws.{held_or_gone}
 use Rattle.plan_manager.specs.Family.{family_name}
 use Rattle.lama_host.specs.StepLaws.{each-append, each-weaker, each-whole, last_of-append, each_once, last_once, changes_then, changes_weaker, changes_none}
 use Rattle.lama_host.specs.Steps.{Each}

@@ -11,10 +11,9 @@ use Rattle.plan_text.specs.PlanText.{plan_text}
 use Rattle.plan_manager.specs.Clearing.{TakesBetween, ClearsBetween}
 use Rattle.plan_manager.specs.Family.{family_name}
 use Rattle.plan_manager.specs.Keeping.{IsDraft, IsPlacedLast, Places}
-use Rattle.plan_manager.specs.KeepingLaws.{drafts_beside}
+use Rattle.plan_manager.specs.Laws.{drafts_beside, sealing_leaves}
 use Rattle.plan_manager.specs.FamilyLaws.{family≢part}
 use Rattle.plan_manager.specs.Sealing.{plan_at, text_at, SealStep, Draft, Place, Take, TakePart, Seals, SealsBetween, Rewrites}
-use Rattle.plan_manager.specs.SealingLaws.{steps_leave}
 use Rattle.lama_host.specs.StepLaws.{each-append, each-weaker, each_once, last_of-append, changes_none, changes_then, changes_weaker}
 use Rattle.lama_host.specs.Steps.{Each}
 use Rattle.plan_manager.proofs.Removing.{nothing_ok}
@@ -65,7 +64,7 @@ stage_more first before now result x base many task kept n m ok high busy so_far
     (λ files steps more past step. (
       each-append (SealStep base many task kept) files steps more past.0 step.0,
       λ k low. rw (last_of-append files steps more) (elim (below_or_not k n) [
-        | inl below ↦ elim ((steps_leave base many task kept (last_of files steps) more step.0).family k (omega arith)) [
+        | inl below ↦ elim ((sealing_leaves base many task kept (last_of files steps) more step.0).family k (omega arith)) [
           | inl same ↦ same ∙ past.1 k below
           | inr text ↦ text
         ]
@@ -87,7 +86,7 @@ last_by (Err e) base many task kept n end files steps more high past step = (eac
 last_by (Ok x) base many task kept n end files steps more high past step = (
   each-append (SealStep base many task kept) files steps more past.0 step.0,
   λ k from low. rw (last_of-append files steps more) (elim (below_or_not k n) [
-    | inl below ↦ elim ((steps_leave base many task kept (last_of files steps) more step.0).family k (omega arith)) [
+    | inl below ↦ elim ((sealing_leaves base many task kept (last_of files steps) more step.0).family k (omega arith)) [
       | inl same ↦ same ∙ past.1 k below
       | inr text ↦ text
     ]
@@ -197,7 +196,7 @@ part_by {T} {E} (Ok x) base many task kept files steps more past step =
     let last : last_of (last_of files steps) more ≡ remove (last_of files steps) (part_name base) = ap (last_of (last_of files steps)) step.0 in (
       each-append (SealStep base many task kept) files steps more past.0 each,
       rw (last_of-append files steps more) (record {
-        plans = λ k high. elim ((steps_leave base many task kept (last_of files steps) more each).family k high) [
+        plans = λ k high. elim ((sealing_leaves base many task kept (last_of files steps) more each).family k high) [
           | inl same ↦ same ∙ past.1 k (omega arith) (omega arith)
           | inr text ↦ text
         ];

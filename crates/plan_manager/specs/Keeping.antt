@@ -3,6 +3,8 @@ use Rattle.std.specs.Prelude.{◌≡◌, ◌≢◌, ℕ, List, [], ◌∷◌, �
 use Rattle.std.specs.FinMap.{get}
 use Rattle.lama_host.specs.Folder.{Files, last_of}
 use Rattle.lama_host.specs.Steps.{Each}
+use Rattle.lama_num.specs.Names.{part_name}
+use Rattle.plan_manager.specs.Family.{family_name}
 
 -- no file, or a front of the text
 abbrev pub IsFront : Option (List ℕ) → List ℕ → Type 0
@@ -43,3 +45,11 @@ pub record LeftByPlacing (draft target text : List ℕ) (before after : Files) :
 -- the number, in the family, of the plan with a number from 1: without many it is the base itself
 abbrev pub plan_number : Bool → ℕ → ℕ
 plan_number many number = if many then number else 0
+
+-- the name of its file
+abbrev pub plan_file : List ℕ → Bool → ℕ → List ℕ
+plan_file base many number = family_name base (plan_number many number)
+
+-- Its text goes to base.part, and from there to its file.
+abbrev pub PlacesPlan : {T E : Type 0} → Result T E → List ℕ → Bool → ℕ → List ℕ → Files → List Files → Type 0
+PlacesPlan result base many number text = Places result (part_name base) (plan_file base many number) text

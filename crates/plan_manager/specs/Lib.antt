@@ -1,10 +1,9 @@
 pub mod Clearing
-pub mod ClearingLaws
 pub mod Comparing
 pub mod Family
 pub mod FamilyLaws
 pub mod Keeping
-pub mod KeepingLaws
+pub mod Laws
+pub mod Moments
 pub mod Sealing
-pub mod SealingLaws
 pub mod TextRests

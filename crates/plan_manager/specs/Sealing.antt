@@ -5,7 +5,6 @@ use Rattle.lama_host.specs.Folder.{Files, last_of}
 use Rattle.lama_num.specs.Names.{part_name}
 use Rattle.sas_task.specs.declared.contents.Parts.{Parts}
 use Rattle.sas_task.specs.declared.plans.Kept.{Kept}
-use Rattle.sas_task.specs.Runs.{cost_of}
 use Rattle.plan_text.specs.PlanText.{plan_text}
 use Rattle.plan_manager.specs.Family.{family_name, SameOutside}
 use Rattle.plan_manager.specs.Keeping.{IsDraft, IsPlaced, Places}
@@ -27,13 +26,9 @@ pub record HoldsPlans (files : Files) (base : List ℕ) (many : Bool) (task : Pa
   pub plans : (k : ℕ) → k ≤ 9999 → get files (family_name base k) ≡ text_at many task kept k
   pub part : get files (part_name base) ≡ None
 
--- what its text needs: the plan's cost is right, and its steps are fewer than 2^32
-pub record IsWritable (task : Parts) (plan : Kept) : Type 0 where
-  pub cost : plan.cost ≡ cost_of task plan.ops
-  pub few : length plan.ops < 2 ^ 32
-
-abbrev pub AreWritable : Parts → List Kept → Type 0
-AreWritable task kept = (i : ℕ) (plan : Kept) → slice_get kept i ≡ Some plan → IsWritable task plan
+-- each plan has fewer than 2^32 steps, so that its text ends below 2^63
+abbrev pub HaveFewSteps : List Kept → Type 0
+HaveFewSteps kept = (i : ℕ) (plan : Kept) → slice_get kept i ≡ Some plan → length plan.ops < 2 ^ 32
 
 -- What one step of sealing does: base.part gets a front of a plan's text; a name of the family, which held something
 -- else, gets its plan's text; a name without a plan is taken away; or base.part is.

@@ -1,12 +1,12 @@
 // Taking the plan files of a base away.
-ghost use Rattle.std.specs.Prelude.{◌≡◌, ◌≤◌, length, OnOk};
+ghost use Rattle.std.specs.Prelude.{◌≡◌, ◌≤◌, length};
 ghost use Rattle.std.specs.FinMap.{remove};
 ghost use Rattle.lama_host.specs.Folder.{Keeps, Changes, Once};
 ghost use Rattle.lama_num.specs.Names.{IsEntryNumber, child_name};
-ghost use Rattle.plan_manager.specs.Clearing.{Clears, ClearsFamily, ClearsBetween, LeftByClearing, LeftByClearingFamily, IsCleared, HasNoPlan};
+ghost use Rattle.plan_manager.specs.Clearing.{Clears, ClearsFamily, ClearsBetween};
 ghost use Rattle.plan_manager.specs.Family.{family_name};
-ghost use Rattle.lama_host.specs.Steps.{Leaves};
 
+use crate::families::FamilyFile;
 use lama_host::{Failed, Folder};
 use lama_num::NameBuf;
 
@@ -18,12 +18,10 @@ fn remove_name<F: Folder>(folder: &mut F, base: &NameBuf, number: u32) -> Result
     requires short { length base.now ≤ 230 }
     requires number { number ≤ 9999 }
     ensures keeps { Keeps (F.told folder.old) (F.told folder.new) result }
-    ensures changes { Changes (F.told folder.old) (F.told folder.new) (Once result (λ files. remove files (family_name base.now number))) }
+    ensures changes { Changes (F.told folder.old) (F.told folder.new)
+        (Once result (λ files. remove files (family_name base.now number))) }
 {
-    if number == 0 {
-        return folder.remove(base.text());
-    }
-    folder.remove(base.numbered(number).text())
+    folder.remove(FamilyFile::new(base, number).name())
 }
 
 /// Takes the names of the family away from one number up to another, without that.
@@ -36,7 +34,8 @@ pub(crate) fn remove_names<F: Folder>(
     requires short { length base.now ≤ 230 }
     requires end { end ≤ 10000 }
     ensures keeps { Keeps (F.told folder.old) (F.told folder.new) result }
-    ensures changes { Changes (F.told folder.old) (F.told folder.new) (ClearsBetween result base.now from end) }
+    ensures changes { Changes (F.told folder.old) (F.told folder.new)
+        (ClearsBetween result base.now from end) }
 {
     for number in from..end {
         remove_name(folder, base, number)?;
@@ -49,8 +48,6 @@ pub fn clear<F: Folder>(folder: &mut F, base: &NameBuf) -> Result<(), Failed>
     requires { length base.now ≤ 200 }
     ensures keeps { Keeps (F.told folder.old) (F.told folder.new) result }
     ensures changes { Changes (F.told folder.old) (F.told folder.new) (Clears result base.now) }
-    ensures leaves { Leaves (F.told folder.old) (F.told folder.new) (LeftByClearing base.now) }
-    ensures cleared { OnOk result (Leaves (F.told folder.old) (F.told folder.new) (λ _ after. IsCleared base.now after)) }
 {
     folder.remove(base.part().text())?;
     remove_names(folder, base, 0, END)
@@ -62,9 +59,8 @@ pub fn clear_child<F: Folder>(folder: &mut F, base: &NameBuf, entry: u32) -> Res
     requires short { length base.now ≤ 200 }
     requires entry { IsEntryNumber entry }
     ensures keeps { Keeps (F.told folder.old) (F.told folder.new) result }
-    ensures changes { Changes (F.told folder.old) (F.told folder.new) (ClearsFamily result (child_name base.now entry)) }
-    ensures leaves { Leaves (F.told folder.old) (F.told folder.new) (LeftByClearingFamily (child_name base.now entry)) }
-    ensures cleared { OnOk result (Leaves (F.told folder.old) (F.told folder.new) (λ _ after. HasNoPlan (child_name base.now entry) after)) }
+    ensures changes { Changes (F.told folder.old) (F.told folder.new)
+        (ClearsFamily result (child_name base.now entry)) }
 {
     remove_names(folder, &base.child(entry), 0, END)
 }

@@ -1,5 +1,6 @@
 // Whether a file holds a text.
-ghost use Rattle.std.specs.Prelude.{◌≡◌, ◌+◌, ◌<◌, ◌≤◌, ◌^◌, ◌↔◌, length, IsTrue, IfOk, IfSome, Some};
+ghost use Rattle.std.specs.Prelude.{◌≡◌, ◌+◌, ◌<◌, ◌≤◌, ◌^◌, ◌↔◌, length};
+ghost use Rattle.std.specs.Prelude.{IsTrue, IfOk, IfSome, Some};
 ghost use Rattle.std.specs.FinMap.{get};
 ghost use Rattle.lama_host.specs.Folder.{Keeps, IsUntouched, WhereTold};
 ghost use Rattle.plan_manager.specs.Comparing.{HasAt, TellsFront, EndsAt};
@@ -8,8 +9,8 @@ ghost use Rattle.plan_manager.specs.TextRests.{text_left};
 use crate::text::{TextRest, Window};
 use lama_host::{Failed, Folder, Piece};
 
-/// Reads a piece of a file, and answers how many of the bytes it has from a place on: none where the
-/// piece has others, or the file ends.
+/// Reads a piece of a file, and answers how many of the bytes it has from a place on: none where
+/// the piece has others, or the file ends.
 fn read_same<F: Folder>(
     folder: &mut F,
     name: &str,
@@ -20,7 +21,8 @@ fn read_same<F: Folder>(
     ensures untouched { IsUntouched (F.told folder.old) (F.told folder.new) }
     ensures keeps { Keeps (F.told folder.old) (F.told folder.new) result }
     ensures fits { IfOk result (λ count. IfSome count (λ n. (0 < n) × (n ≤ length bytes.now))) }
-    ensures tells { WhereTold (F.told folder.old) (λ files. IfOk result (TellsFront (get files name.now) start bytes.now)) }
+    ensures tells { WhereTold (F.told folder.old) (λ files.
+        IfOk result (TellsFront (get files name.now) start bytes.now)) }
 {
     let mut buf = [0u8; 8192];
     match folder.read_some(name, start, &mut buf) {
@@ -44,7 +46,8 @@ fn has_at<F: Folder>(folder: &mut F, name: &str, start: u64, bytes: &[u8]) -> Re
     requires within { start + length bytes.now < 2 ^ 64 }
     ensures untouched { IsUntouched (F.told folder.old) (F.told folder.new) }
     ensures keeps { Keeps (F.told folder.old) (F.told folder.new) result }
-    ensures tells { WhereTold (F.told folder.old) (λ files. IfOk result (λ has. IsTrue has ↔ HasAt (get files name.now) start bytes.now)) }
+    ensures tells { WhereTold (F.told folder.old) (λ files. IfOk result (λ has.
+        IsTrue has ↔ HasAt (get files name.now) start bytes.now)) }
 {
     let mut at = start;
     let mut rest = bytes;
@@ -65,7 +68,8 @@ fn has_at<F: Folder>(folder: &mut F, name: &str, start: u64, bytes: &[u8]) -> Re
 fn ends_at<F: Folder>(folder: &mut F, name: &str, start: u64) -> Result<bool, Failed>
     ensures untouched { IsUntouched (F.told folder.old) (F.told folder.new) }
     ensures keeps { Keeps (F.told folder.old) (F.told folder.new) result }
-    ensures tells { WhereTold (F.told folder.old) (λ files. IfOk result (λ ends. IsTrue ends ↔ EndsAt (get files name.now) start)) }
+    ensures tells { WhereTold (F.told folder.old) (λ files. IfOk result (λ ends.
+        IsTrue ends ↔ EndsAt (get files name.now) start)) }
 {
     let mut buf = [0u8; 1];
     match folder.read_some(name, start, &mut buf) {
@@ -85,7 +89,8 @@ pub(crate) fn holds<F: Folder>(
     requires { length (text_left text.old) < 2 ^ 63 }
     ensures untouched { IsUntouched (F.told folder.old) (F.told folder.new) }
     ensures keeps { Keeps (F.told folder.old) (F.told folder.new) result }
-    ensures tells { WhereTold (F.told folder.old) (λ files. IfOk result (λ same. IsTrue same ↔ (get files name.now ≡ Some (text_left text.old)))) }
+    ensures tells { WhereTold (F.told folder.old) (λ files. IfOk result (λ same.
+        IsTrue same ↔ (get files name.now ≡ Some (text_left text.old)))) }
 {
     let mut window = Window::new();
     let mut at: u64 = 0;

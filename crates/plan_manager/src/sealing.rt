@@ -1,17 +1,16 @@
 // Sealing: afterwards the folder holds just the plans.
-ghost use Rattle.std.specs.Prelude.{◌≡◌, ◌≢◌, ◌≤◌, ◌<◌, ◌^◌, [], length, slice_get, OnOk, Some, ℕ, false, if◌then◌else◌};
+ghost use Rattle.std.specs.Prelude.{◌≡◌, ◌≢◌, ◌≤◌, ◌<◌, ◌^◌, [], length, false, if◌then◌else◌};
 ghost use Rattle.lama_host.specs.Folder.{Keeps, Changes};
 ghost use Rattle.lama_num.specs.Names.{part_name};
 ghost use Rattle.plan_text.specs.PlanText.{plan_text};
-ghost use Rattle.sas_task.specs.declared.plans.Kept.{Kept};
 ghost use Rattle.plan_manager.specs.Family.{family_name};
-ghost use Rattle.plan_manager.specs.Sealing.{HoldsPlans, IsWritable, AreWritable, Seals, LeftBySealing, Rewrites, SealsBetween};
-ghost use Rattle.lama_host.specs.Steps.{Leaves};
+ghost use Rattle.plan_manager.specs.Sealing.{HaveFewSteps, Seals, Rewrites, SealsBetween};
 
 use crate::clearing::{END, remove_names};
 use crate::comparing::holds;
+use crate::families::FamilyFile;
 use crate::keeping::place;
-use crate::text::{TextRest, cost_text};
+use crate::text::{TextRest, last_line};
 use lama_host::{Failed, Folder};
 use lama_num::NameBuf;
 use sas_task::{Kept, Task};
@@ -22,20 +21,21 @@ fn rewrite<F: Folder>(
     draft: &str,
     target: &str,
     task: &Task,
-    kept: &Kept,
+    ops: &[u32],
 ) -> Result<(), Failed>
     requires idle { (F.told folder.old).busy ≡ [] }
     requires apart { target.now ≢ draft.now }
-    requires plan { IsWritable task.now kept.now }
+    requires few { length ops.now < 2 ^ 32 }
     ensures keeps { Keeps (F.told folder.old) (F.told folder.new) result }
-    ensures changes { Changes (F.told folder.old) (F.told folder.new) (Rewrites result draft.now target.now (plan_text task.now kept.now.ops)) }
+    ensures changes { Changes (F.told folder.old) (F.told folder.new)
+        (Rewrites result draft.now target.now (plan_text task.now ops.now)) }
 {
-    let last = cost_text(task.is_unit_cost(), kept.cost);
-    let mut text = TextRest::new(task, &kept.ops, last.as_str().as_bytes());
+    let last = last_line(task, ops);
+    let mut text = TextRest::new(task, ops, last.as_str().as_bytes());
     match holds(folder, target, &mut text) {
         Err(e) => Err(e),
         Ok(true) => Ok(()),
-        Ok(false) => place(folder, draft, target, task, kept),
+        Ok(false) => place(folder, draft, target, task, ops),
     }
 }
 
@@ -45,26 +45,20 @@ fn rewrite_name<F: Folder>(
     base: &NameBuf,
     number: u32,
     task: &Task,
-    kept: &Kept,
+    ops: &[u32],
 ) -> Result<(), Failed>
     requires idle { (F.told folder.old).busy ≡ [] }
     requires short { length base.now ≤ 200 }
     requires number { number ≤ 9999 }
-    requires plan { IsWritable task.now kept.now }
+    requires few { length ops.now < 2 ^ 32 }
     ensures keeps { Keeps (F.told folder.old) (F.told folder.new) result }
-    ensures changes { Changes (F.told folder.old) (F.told folder.new) (Rewrites result (part_name base.now) (family_name base.now number) (plan_text task.now kept.now.ops)) }
+    ensures changes { Changes (F.told folder.old) (F.told folder.new)
+        (Rewrites result (part_name base.now) (family_name base.now number)
+        (plan_text task.now ops.now)) }
 {
     let draft = base.part();
-    if number == 0 {
-        return rewrite(folder, draft.text(), base.text(), task, kept);
-    }
-    rewrite(
-        folder,
-        draft.text(),
-        base.numbered(number).text(),
-        task,
-        kept,
-    )
+    let file = FamilyFile::new(base, number);
+    rewrite(folder, draft.text(), file.name(), task, ops)
 }
 
 /// The number, in the family, of the first plan.
@@ -86,21 +80,22 @@ fn seal_family<F: Folder>(
     requires short { length base.now ≤ 200 }
     requires few { length kept.now ≤ 9999 }
     requires single { many ≡ false → length kept.now ≤ 1 }
-    requires plans { AreWritable task.now kept.now }
+    requires steps { HaveFewSteps kept.now }
     ensures keeps { Keeps (F.told folder.old) (F.told folder.new) result }
-    ensures changes { Changes (F.told folder.old) (F.told folder.new) (SealsBetween result base.now many task.now kept.now 0 10000) }
+    ensures changes { Changes (F.told folder.old) (F.told folder.new)
+        (SealsBetween result base.now many task.now kept.now 0 10000) }
 {
     let first = first_number(many);
     remove_names(folder, base, 0, first)?;
     for (index, plan) in kept.iter().enumerate() {
-        rewrite_name(folder, base, first + index as u32, task, plan)?;
+        rewrite_name(folder, base, first + index as u32, task, &plan.ops)?;
     }
     remove_names(folder, base, first + kept.len() as u32, END)
 }
 
-/// Makes the folder hold just the kept plans: with `many` `base.1`, `base.2` and so on, without it the
-/// base itself. What a file holds already isn't written again, and all other names of the family and
-/// `base.part` are taken away.
+/// Makes the folder hold just the kept plans: with `many` `base.1`, `base.2` and so on, without it
+/// the base itself. What a file holds already isn't written again, and all other names of the
+/// family and `base.part` are taken away. The costs in the texts are added up from the operators.
 pub fn seal<F: Folder>(
     folder: &mut F,
     base: &NameBuf,
@@ -112,11 +107,10 @@ pub fn seal<F: Folder>(
     requires short { length base.now ≤ 200 }
     requires few { length kept.now ≤ 9999 }
     requires single { many ≡ false → length kept.now ≤ 1 }
-    requires plans { AreWritable task.now kept.now }
+    requires steps { HaveFewSteps kept.now }
     ensures keeps { Keeps (F.told folder.old) (F.told folder.new) result }
-    ensures changes { Changes (F.told folder.old) (F.told folder.new) (Seals result base.now many task.now kept.now) }
-    ensures leaves { Leaves (F.told folder.old) (F.told folder.new) (LeftBySealing base.now many task.now kept.now) }
-    ensures holds { OnOk result (Leaves (F.told folder.old) (F.told folder.new) (λ _ after. HoldsPlans after base.now many task.now kept.now)) }
+    ensures changes { Changes (F.told folder.old) (F.told folder.new)
+        (Seals result base.now many task.now kept.now) }
 {
     seal_family(folder, base, many, task, kept)?;
     folder.remove(base.part().text())

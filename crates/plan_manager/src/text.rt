@@ -1,11 +1,14 @@
 // The text of a plan, taken piece by piece without memory.
 ghost use Rattle.std.specs.Prelude.{◌≡◌, ◌<◌, ◌≤◌, ◌^◌, ◌++◌, [], length, IsTrue, false};
-ghost use Rattle.plan_text.specs.PlanText.{cost_line, name_at, kind_of_cost as the_kind};
-ghost use Rattle.plan_manager.specs.TextRests.{steps_text, line_left, later_left, lines_left, text_left};
+ghost use Rattle.sas_task.specs.Costs.{is_unit_cost};
+ghost use Rattle.sas_task.specs.Runs.{cost_of as the_cost};
+ghost use Rattle.plan_text.specs.PlanText.{cost_line, name_at, plan_text};
+ghost use Rattle.plan_text.specs.PlanText.{kind_of_cost as the_kind};
+ghost use Rattle.plan_manager.specs.TextRests.{line_left, lines_left, text_left};
 
 use arrayvec::{ArrayString, ArrayVec};
 use itoa::Buffer;
-use sas_task::{Parts, Task};
+use sas_task::{CostKind, Parts, Task};
 
 /// Bytes on their way to a file, or to be compared with one's.
 pub(crate) type Window = ArrayVec<u8, 8192>;
@@ -21,15 +24,26 @@ fn kind_of_cost(unit: bool) -> &'static str
     }
 }
 
+/// What steps cost together. As many as there may be fit 128 bits.
+fn cost_of(task: &Task, ops: &[u32]) -> u128
+    ensures { result ≡ the_cost task.now ops.now }
+{
+    let mut cost: u128 = 0;
+    for op in ops {
+        cost += u128::from(task.adjusted_cost(*op, CostKind::Normal));
+    }
+    cost
+}
+
 /// The last line of a plan's text.
-pub(crate) fn cost_text(unit: bool, cost: u64) -> ArrayString<64>
-    ensures { result.bytes ≡ cost_line unit cost }
+pub(crate) fn last_line(task: &Task, ops: &[u32]) -> ArrayString<64>
+    ensures { result.bytes ≡ cost_line (is_unit_cost task.now) (the_cost task.now ops.now) }
 {
     let mut digits = Buffer::new();
     let mut text = ArrayString::new();
     text.push_str("; cost = ");
-    text.push_str(digits.format(cost));
-    text.push_str(kind_of_cost(unit));
+    text.push_str(digits.format(cost_of(task, ops)));
+    text.push_str(kind_of_cost(task.is_unit_cost()));
     text
 }
 
@@ -37,15 +51,16 @@ pub(crate) fn cost_text(unit: bool, cost: u64) -> ArrayString<64>
 fn put_part<'a>(window: &mut Window, part: &'a [u8]) -> &'a [u8]
     ensures moved { window.new.items ++ result.now ≡ window.old.items ++ part.now }
     ensures full { length window.new.items < 8192 → result.now ≡ [] }
-    ensures stuck { 8192 ≤ length window.old.items → (window.new.items ≡ window.old.items) × (result.now ≡ part.now) }
+    ensures stuck { 8192 ≤ length window.old.items
+        → (window.new.items ≡ window.old.items) × (result.now ≡ part.now) }
 {
     let count = part.len().min(window.remaining_capacity());
     let _fits = window.try_extend_from_slice(&part[..count]);
     &part[count..]
 }
 
-/// What is left of a plan's text: three parts of the line at hand, the steps after it, and the last
-/// line, where it isn't at hand.
+/// What is left of a plan's text: three parts of the line at hand, the steps after it, and the
+/// last line, where it isn't at hand.
 #[derive(Drop)]
 pub(crate) struct TextRest<'a> {
     parts: &'a Parts,
@@ -69,8 +84,10 @@ fn name_of(parts: &Parts, op: u32) -> &[u8]
 impl<'a> TextRest<'a> {
     /// The whole text of steps, with the last line.
     pub(crate) fn new(task: &'a Task, ops: &'a [u32], cost: &'a [u8]) -> TextRest<'a>
-        ensures text { text_left result ≡ steps_text task.now ops.now ++ cost.now }
-        ensures short { length ops.now < 2 ^ 32 → length cost.now ≤ 64 → length (text_left result) < 2 ^ 63 }
+        requires { cost.now ≡ cost_line (is_unit_cost task.now) (the_cost task.now ops.now) }
+        ensures text { text_left result ≡ plan_text task.now ops.now }
+        ensures short { length ops.now < 2 ^ 32 → length cost.now ≤ 64
+            → length (text_left result) < 2 ^ 63 }
     {
         TextRest {
             parts: task.parts(),
@@ -84,7 +101,8 @@ impl<'a> TextRest<'a> {
 
     /// Moves as much of the line at hand as there is room for.
     fn put_line(&mut self, window: &mut Window)
-        ensures moved { window.new.items ++ text_left self.new ≡ window.old.items ++ text_left self.old }
+        ensures moved { window.new.items ++ text_left self.new
+            ≡ window.old.items ++ text_left self.old }
         ensures full { length window.new.items < 8192 → line_left self.new ≡ [] }
         ensures lines { lines_left self.new ≡ lines_left self.old }
     {
@@ -115,7 +133,8 @@ impl<'a> TextRest<'a> {
 
     /// Moves bytes to the window until it is full or nothing is left.
     pub(crate) fn fill(&mut self, window: &mut Window)
-        ensures moved { window.new.items ++ text_left self.new ≡ window.old.items ++ text_left self.old }
+        ensures moved { window.new.items ++ text_left self.new
+            ≡ window.old.items ++ text_left self.old }
         ensures all { length window.new.items < 8192 → text_left self.new ≡ [] }
     {
         self.put_line(window);

@@ -1,5 +1,5 @@
 use Rattle.std.proofs.Common.{◌≡◌, ◌∙◌, sym, ap, subst, refl, Some, Err, rules}
-use Rattle.driver_core.specs.States.{CoreState}
+use Rattle.plan_manager.specs.Family.{family_name}
 use Rattle.candidates.specs.Gathering.{IsOpen}
 use Rattle.candidates.proofs.Adding.{no_plans_added}
 use Rattle.lama_host.specs.StepLaws.{stays_same, stays_untouched, stays_then}
@@ -19,7 +19,7 @@ returns-in_err-verdict-clause-gathers g c events gathering =
 pub returns-in_default-clause-gathers : goal.returns-in_default-clause-gathers
 returns-in_default-clause-gathers g c events gathering =
     missing_done _ c.args.core.now.setting c.args.task.now c.args.base.now c.args.many c.args.entry (g.F.Folder.told c.args.folder.now) (g.F.Folder.told c.judge_file.new.folder) c.args.core.now events c.args.kept.now.items c.args.candidates.now.items c.args.number
-    c.text.result.now c.bound-bound.result c.in_ok-verdict.field-0 refl c.requires.number (c.text.ensures ∙ c.file_name-name.ensures) c.in_default.is gathering c.judge_file.ensures.untouched
+    c.name.result.now c.bound-bound.result c.in_ok-verdict.field-0 refl c.requires.number (c.name.ensures ∙ c.new-name.ensures ∙ ap (λ b. family_name b c.args.number) c.child-child.ensures.name) c.in_default.is gathering c.judge_file.ensures.untouched
     c.in_ok-verdict.ensures.exact
 
 pub returns-in_err-take_candidate-clause-gathers : goal.returns-in_err-take_candidate-clause-gathers
@@ -44,7 +44,7 @@ returns-clause-gathers g c events gathering =
     found_done c.args.core.now.setting c.args.task.now c.args.base.now c.args.many c.args.entry
     (g.F.Folder.told c.args.folder.now) (g.F.Folder.told c.judge_file.new.folder) (g.F.Folder.told c.take_candidate.new.folder)
     c.take_candidate.new.core events c.args.kept.now.items c.take_candidate.new.kept.items c.args.candidates.now.items c.take_candidate.new.candidates.items c.args.number
-    c.text.result.now c.bound-bound.result c.in_ok-verdict.field-0 c.in-Some.verdict c.requires.number (c.text.ensures ∙ c.file_name-name.ensures) c.in-Some.is goes c.judge_file.ensures.untouched
+    c.name.result.now c.bound-bound.result c.in_ok-verdict.field-0 c.in-Some.verdict c.requires.number (c.name.ensures ∙ c.new-name.ensures ∙ ap (λ b. family_name b c.args.number) c.child-child.ensures.name) c.in-Some.is goes c.judge_file.ensures.untouched
     c.in_ok-verdict.ensures.exact c.in_ok-take_candidate.ensures.kept c.in_ok-take_candidate.ensures.candidates
     (c.in_ok-take_candidate.ensures.core events c.bound-bound.result gathering goes (search rules))
     c.in_ok-take_candidate.ensures.writes

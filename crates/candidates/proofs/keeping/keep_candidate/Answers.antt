@@ -4,14 +4,14 @@ use Rattle.plan_text.specs.PlanText.{plan_text}
 use Rattle.candidates.specs.Gathering.{IsGathering}
 use Rattle.candidates.proofs.Gathered.{plan_kept}
 use Rattle.lama_host.specs.StepLaws.{stays_same, stays_kept}
-use Rattle.candidates.proofs.Taken.{where_ok, plan_writes}
+use Rattle.candidates.proofs.Taken.{places_ok, plan_writes}
 use Rattle.candidates.proofs.keeping.keep_candidate.Goals as goal
 
 pub returns-clause-writes : goal.returns-clause-writes
 returns-clause-writes g c =
     let index : c.len-index.result ≡ length c.args.kept.now.items = search rules in
     plan_writes c.args.base.now c.args.many c.args.task.now (length c.args.kept.now.items) (c.len-index.result + 1) c.args.plan (g.F.Folder.told c.args.folder.now) (g.F.Folder.told c.keep.new.folder) (ap (λ k. k + 1) index)
-    (where_ok c.keep.result _ (search rules) c.keep.ensures.kept)
+    (places_ok c.keep.result c.args.base.now c.args.many (c.len-index.result + 1) (plan_text c.args.task.now c.args.plan.ops) _ _ (search rules) c.keep.ensures.changes)
 
 pub returns-clause-core : goal.returns-clause-core
 returns-clause-core g c events bound gathering goes below =

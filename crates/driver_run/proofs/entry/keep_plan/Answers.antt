@@ -8,7 +8,7 @@ use Rattle.driver_run.proofs.entry.keep_plan.Goals as goal
 pub returns-clause-outside : goal.returns-clause-outside
 returns-clause-outside g c =
     let told = g.F.Folder.told in
-    λ some. kept_outside (told c.args.folder.now) (told c.keep.new.folder) c.args.base.now _ c.requires.base c.in-Ok.ensures.kept
+    λ some. kept_outside (told c.args.folder.now) (told c.keep.new.folder) c.args.base.now _ c.requires.base c.in-Ok.ensures.changes
 
 pub returns-clause-solved : goal.returns-clause-solved
 returns-clause-solved g c =

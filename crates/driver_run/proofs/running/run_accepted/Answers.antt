@@ -14,7 +14,7 @@ use Rattle.driver_run.proofs.running.run_accepted.Goals as goal
 pub run_task-requires-clause-cleared : goal.run_task-requires-clause-cleared
 run_task-requires-clause-cleared g c =
     let told = g.F.Folder.told in
-    cleared_now (told c.args.folder.now) (told c.clear.new.folder) c.base-base.result c.base-base.ensures c.requires.idle c.in-Ok.ensures.keeps.content c.in-Ok.ensures.cleared
+    cleared_now (told c.args.folder.now) (told c.clear.new.folder) c.base-base.result c.base-base.ensures c.requires.idle c.in-Ok.ensures.keeps.content c.in-Ok.ensures.changes
 
 pub returns-in-Ok-clause-files : goal.returns-in-Ok-clause-files
 returns-in-Ok-clause-files g c =
@@ -24,7 +24,7 @@ returns-in-Ok-clause-files g c =
     c.run_task.result
     (λ report leaves fine.
     plans_cleared (told c.args.folder.now) (told c.clear.new.folder) (told c.run_task.new.folder) report.task report.kept c.base-base.result c.base-base.ensures
-    (c.in-Ok.ensures.keeps.busy ∙ c.requires.idle) c.in-Ok.ensures.leaves (leaves fine))
+    (c.in-Ok.ensures.keeps.busy ∙ c.requires.idle) c.in-Ok.ensures.changes (leaves fine))
     c.run_task.ensures.leaves
 
 pub returns-in-Ok-clause-task : goal.returns-in-Ok-clause-task
@@ -32,7 +32,7 @@ returns-in-Ok-clause-task g c =
     let told = g.F.Folder.told in
     held_after_clearing (told c.args.folder.now) (told c.clear.new.folder) c.base-base.result c.args.name.now
     (λ held. IfOk c.run_task.result (λ report. TellsTask held report.task report.why)) c.base-base.ensures c.requires.name
-    (c.in-Ok.ensures.keeps.busy ∙ c.requires.idle) c.in-Ok.ensures.leaves c.run_task.ensures.task
+    (c.in-Ok.ensures.keeps.busy ∙ c.requires.idle) c.in-Ok.ensures.changes c.run_task.ensures.task
 
 pub returns-in-Ok-clause-clock : goal.returns-in-Ok-clause-clock
 returns-in-Ok-clause-clock g c =

@@ -2,7 +2,6 @@ use Rattle.std.proofs.Common.{subst}
 use Rattle.lama_host.specs.Folder.{Changes}
 use Rattle.lama_num.specs.Names.{child_name}
 use Rattle.plan_manager.specs.Clearing.{ClearsBetween}
-use Rattle.plan_manager.specs.ClearingLaws.{clearing_family_leaves, family_cleared}
 use Rattle.plan_manager.proofs.Removing.{clears_family}
 use Rattle.plan_manager.proofs.clearing.clear_child.Goals as goal
 
@@ -11,9 +10,3 @@ returns-clause-changes g c =
     let told = g.F.Folder.told in
     clears_family _ _ c.remove_names.result (child_name c.args.base.now c.args.entry)
     (subst (λ name. Changes (told c.args.folder.now) (told c.remove_names.new.folder) (ClearsBetween c.remove_names.result name 0 10000)) c.child.ensures.name c.remove_names.ensures.changes)
-
-pub returns-clause-leaves : goal.returns-clause-leaves
-returns-clause-leaves g c = clearing_family_leaves _ _ c.remove_names.result (child_name c.args.base.now c.args.entry) (returns-clause-changes g c)
-
-pub returns-clause-cleared : goal.returns-clause-cleared
-returns-clause-cleared g c = family_cleared _ _ c.remove_names.result (child_name c.args.base.now c.args.entry) (returns-clause-changes g c)

@@ -1,4 +1,4 @@
-use Rattle.std.proofs.Common.{◌≡◌, ◌∙◌, ap, subst, refl, arith, ℕ, List, length, Bool, true, false, if◌then◌else◌, ◌+◌, ◌<◌, ◌≤◌, Some}
+use Rattle.std.proofs.Common.{◌≡◌, ◌∙◌, ap, sym, subst, refl, arith, ℕ, List, length, ◌^◌, Bool, true, false, if◌then◌else◌, ◌+◌, ◌<◌, ◌≤◌, Some}
 use Rattle.std.specs.Prelude.{slice_get, option_map}
 use Rattle.std.proofs.lemmas.Option.{slice_get_read}
 use Rattle.lama_host.specs.Folder.{Told, Changes}
@@ -49,9 +49,10 @@ loop-index-init g c =
           (λ k low below. none_before c.args.many c.args.kept.now first k c.first_number-first.ensures below) c.remove_names.ensures.changes));
     }
 
-pub rewrite_name-requires-clause-plan : goal.rewrite_name-requires-clause-plan
-rewrite_name-requires-clause-plan g c =
-    c.requires.plans c.loop-index.index c.index-kept-index.result (slice_get_read c.args.kept.now (length c.args.kept.now) c.loop-index.index c.index-kept-index.result refl (omega (arith, c.loop-index-test.true)) c.index-kept-index.is)
+pub rewrite_name-requires-clause-few : goal.rewrite_name-requires-clause-few
+rewrite_name-requires-clause-few g c =
+    let at = slice_get_read c.args.kept.now (length c.args.kept.now) c.loop-index.index c.index-kept-index.result refl (omega (arith, c.loop-index-test.true)) c.index-kept-index.is in
+    subst (λ o. length o < 2 ^ 32) (sym c.deref.ensures) (c.requires.steps c.loop-index.index c.index-kept-index.result at)
 
 pub returns-in_err-rewrite_name-clause-changes : goal.returns-in_err-rewrite_name-clause-changes
 returns-in_err-rewrite_name-clause-changes g c =
@@ -64,7 +65,7 @@ returns-in_err-rewrite_name-clause-changes g c =
     c.from_residual-in_err-rewrite_name.ensures.0 c.loop-index.invariant.keeps.busy c.loop-index.invariant.changes
     (rewritten_seals (told c.loop-index.folder) (told c.rewrite_name.new.folder) c.rewrite_name.result c.args.base.now c.args.many c.args.task.now kept (first + c.loop-index.index) (plan_text c.args.task.now plan.ops)
     (number_fits c.args.many first c.loop-index.index kept c.first_number-first.ensures c.requires.few (omega (arith, c.loop-index-test.true)))
-    (has_text c.args.many c.args.task.now kept first c.loop-index.index plan c.first_number-first.ensures c.requires.single at) c.rewrite_name.ensures.changes)
+    (has_text c.args.many c.args.task.now kept first c.loop-index.index plan c.first_number-first.ensures c.requires.single at) (rw c.deref.ensures at c.rewrite_name.ensures.changes))
 
 pub loop-index-preserved : goal.loop-index-preserved
 loop-index-preserved g c =
@@ -80,7 +81,7 @@ loop-index-preserved g c =
           (stage_more (told c.args.folder.now) (told c.loop-index.folder) (told c.rewrite_name.new.folder) c.rewrite_name.result _ c.args.base.now c.args.many c.args.task.now kept (first + c.loop-index.index) (first + c.loop-index.index + 1)
           c.in_ok-rewrite_name.was (omega (arith, fits)) c.loop-index.invariant.keeps.busy c.loop-index.invariant.changes
           (rewritten_seals (told c.loop-index.folder) (told c.rewrite_name.new.folder) c.rewrite_name.result c.args.base.now c.args.many c.args.task.now kept (first + c.loop-index.index) (plan_text c.args.task.now plan.ops) fits
-          (has_text c.args.many c.args.task.now kept first c.loop-index.index plan c.first_number-first.ensures c.requires.single at) c.rewrite_name.ensures.changes));
+          (has_text c.args.many c.args.task.now kept first c.loop-index.index plan c.first_number-first.ensures c.requires.single at) (rw c.deref.ensures at c.rewrite_name.ensures.changes)));
     }
 
 pub returns-clause-changes : goal.returns-clause-changes

@@ -1,6 +1,6 @@
 use Rattle.std.proofs.Common.{◌≡◌, ◌≤◌, ◌*◌, take}
 use Rattle.sas_task.specs.Runs.{cost_of}
-use Rattle.plan_folder_tests.proofs.files.cost_of_steps.Given as goal
+use Rattle.plan_manager.proofs.text.cost_of.Given as goal
 
 abbrev pub invariant-loop-op : goal.invariant-loop-op
 invariant-loop-op l = record {
