@@ -1,4 +1,6 @@
 pub mod Bounds
-pub mod Counts
+pub mod Tests
+pub mod Present
 pub mod Steps
+pub mod Times
 pub mod Stopping

@@ -10,11 +10,11 @@ use Rattle.driver_core.specs.declared.events.Event.TheVariants.{Began, Candidate
 use Rattle.driver_core.specs.declared.settings.Setting.{Setting}
 use Rattle.driver_core.specs.Keeping.{kept_costs}
 
--- the part that an event tells of: how an entry ended, or that the run is out of time
+-- the part that an event tells of: how a turn ended, or that the run is out of time
 abbrev pub part_in : Event → Option Part
-part_in (Began entry moment) = None
-part_in (Candidate entry cost) = None
-part_in (Ended entry part last) = Some part
+part_in (Began round entry moment) = None
+part_in (Candidate round entry cost) = None
+part_in (Ended round entry part last) = Some part
 part_in (OutOfTime moment) = Some RanOut
 
 abbrev pub parts_in : List Event → List Part

@@ -9,9 +9,9 @@ use Rattle.driver_core.specs.Settings.{most_plans}
 
 -- the cost of a candidate that is a plan
 abbrev pub cost_in : Event → Option ℕ
-cost_in (Began entry moment) = None
-cost_in (Candidate entry cost) = cost
-cost_in (Ended entry part last) = None
+cost_in (Began round entry moment) = None
+cost_in (Candidate round entry cost) = cost
+cost_in (Ended round entry part last) = None
 cost_in (OutOfTime moment) = None
 
 -- the costs of the candidates that are plans

@@ -1,6 +1,8 @@
 pub mod Pasts
 pub mod Settings
+pub mod Turns
 pub mod Keeping
+pub mod Rounds
 pub mod Running
 pub mod Legal
 pub mod Ends

@@ -1,53 +1,36 @@
 -- When a run is over, and what is answered to each event.
-use Rattle.std.specs.Prelude.{ℕ, Bool, true, false, ◌||◌, ◌==◌, nat_le, if◌then◌else◌, List, [], ◌∷◌, ◌++◌, length, Option, Some, None}
-use Rattle.std.specs.List.{list_all, list_any}
+use Rattle.std.specs.Prelude.{ℕ, Bool, true, false, ◌||◌, nat_le, if◌then◌else◌, List, [], ◌∷◌, ◌++◌, length, Option, Some, None}
+use Rattle.std.specs.List.{list_any}
 use Rattle.driver_core.specs.declared.events.Event.{Event}
 use Rattle.driver_core.specs.declared.events.Event.TheVariants.{Began, Candidate, Ended, OutOfTime}
 use Rattle.driver_core.specs.declared.events.Action.{Action}
 use Rattle.driver_core.specs.declared.events.Action.TheVariants.{Go, Keep, Drop, Stop}
 use Rattle.driver_core.specs.declared.settings.Setting.{Setting}
 use Rattle.driver_core.specs.Pasts.{each_after}
-use Rattle.driver_core.specs.Settings.{most_plans, entries}
+use Rattle.driver_core.specs.Settings.{most_plans}
 use Rattle.driver_core.specs.Keeping.{kept_costs, is_kept}
-
-abbrev pub begins : ℕ → Event → Bool
-begins entry (Began begun moment) = begun == entry
-begins entry (Candidate from cost) = false
-begins entry (Ended ended part last) = false
-begins entry (OutOfTime moment) = false
-
-abbrev pub ends : ℕ → Event → Bool
-ends entry (Began begun moment) = false
-ends entry (Candidate from cost) = false
-ends entry (Ended ended part last) = ended == entry
-ends entry (OutOfTime moment) = false
-
-abbrev pub has_begun : List Event → ℕ → Bool
-has_begun events entry = list_any (begins entry) events
-
-abbrev pub has_ended : List Event → ℕ → Bool
-has_ended events entry = list_any (ends entry) events
+use Rattle.driver_core.specs.Rounds.{has_last_round}
 
 abbrev pub is_out_of_time : Event → Bool
-is_out_of_time (Began entry moment) = false
-is_out_of_time (Candidate entry cost) = false
-is_out_of_time (Ended entry part last) = false
+is_out_of_time (Began round entry moment) = false
+is_out_of_time (Candidate round entry cost) = false
+is_out_of_time (Ended round entry part last) = false
 is_out_of_time (OutOfTime moment) = true
 
--- an end that leaves the other entries nothing to do
+-- an end that leaves the other turns nothing to do
 abbrev pub is_last_end : Event → Bool
-is_last_end (Began entry moment) = false
-is_last_end (Candidate entry cost) = false
-is_last_end (Ended entry part last) = last
+is_last_end (Began round entry moment) = false
+is_last_end (Candidate round entry cost) = false
+is_last_end (Ended round entry part last) = last
 is_last_end (OutOfTime moment) = false
 
--- A run is over once it has run out of time, an entry has ended as the last, as many plans are kept as a run keeps, or all entries have ended.
+-- A run is over once it has run out of time, a turn has ended as the last, as many plans are kept as a run keeps, or a round has ended that no other follows.
 abbrev pub is_over_after : Setting → List Event → Bool
 is_over_after setting events =
     list_any is_out_of_time events
     || (list_any is_last_end events
     || (nat_le (most_plans setting.single) (length (kept_costs setting events))
-    || list_all (has_ended events) (entries setting)))
+    || has_last_round setting events))
 
 -- Stop where the run is over, else the other action
 abbrev pub stop_or : Action → Bool → Action
@@ -64,9 +47,9 @@ candidate_action setting past (Some cost) =
 
 -- What is answered to an event that comes after these.
 abbrev pub action_of : Setting → List Event → Event → Action
-action_of setting past (Began entry moment) = stop_or Go (is_over_after setting past)
-action_of setting past (Candidate entry cost) = candidate_action setting past cost
-action_of setting past (Ended entry part last) = stop_or Go (is_over_after setting (past ++ Ended entry part last ∷ []))
+action_of setting past (Began round entry moment) = stop_or Go (is_over_after setting past)
+action_of setting past (Candidate round entry cost) = candidate_action setting past cost
+action_of setting past (Ended round entry part last) = stop_or Go (is_over_after setting (past ++ Ended round entry part last ∷ []))
 action_of setting past (OutOfTime moment) = Stop
 
 -- what is answered to each of the events

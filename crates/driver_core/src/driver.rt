@@ -1,9 +1,11 @@
 // The core: what a driver needs of all events so far.
-ghost use Rattle.std.specs.Prelude.{◌≡◌, ◌<◌, ◌≤◌, ℕ, true, false, List, [], ◌∷◌, ◌++◌, length, IfOk};
-ghost use Rattle.std.specs.List.{list_all};
-ghost use Rattle.driver_core.specs.Settings.{is_share, share_of, most_plans};
+ghost use Rattle.std.specs.Prelude.{◌≡◌, ◌<◌, ◌≤◌, ℕ, true, false, List, [], ◌∷◌, ◌++◌, length, IfOk, IfSome};
+ghost use Rattle.std.specs.Option.{option_copied};
+ghost use Rattle.std.specs.List.{list_all, list_any};
+ghost use Rattle.driver_core.specs.Settings.{is_share, most_plans};
 
 use crate::events::{Action, Event};
+use crate::marks::{any_marked, count, has_mark, mark, move_on};
 use crate::settings::Setting;
 use crate::shares::portion;
 use exit_codes::{Codes, Part, combine, norm};
@@ -18,9 +20,12 @@ const MOST_PLANS: u32 = 9999;
 #[derive(Debug, Drop)]
 pub struct Core {
     setting: Setting,
+    round: u32,
+    running: Vec<bool>,
+    keepers: Vec<bool>,
+    unended: u32,
     bound: Option<u64>,
     kept: u32,
-    unended: u32,
     last: bool,
     out_of_time: bool,
     codes: Codes,
@@ -38,9 +43,12 @@ impl Model for Core {
 
     ghost view = { λ c. record {
       setting = c.setting;
+      round = c.round;
+      running = c.running.items;
+      keepers = c.keepers.items;
+      unended = c.unended;
       bound = c.bound;
       kept = c.kept;
-      unended = c.unended;
       last = c.last;
       out_of_time = c.out_of_time;
       codes = c.codes;
@@ -48,7 +56,9 @@ impl Model for Core {
 
     ghost invariant = { λ c. (0 < length c.setting.shares)
         × (length c.setting.shares ≤ 1000)
-        × (list_all is_share c.setting.shares ≡ true) };
+        × (list_all is_share c.setting.shares ≡ true)
+        × (length c.running.items ≡ length c.setting.shares)
+        × (length c.keepers.items ≡ length c.setting.shares) };
 }
 
 impl Core {
@@ -57,14 +67,18 @@ impl Core {
     ghost use Rattle.driver_core.specs.Keeping.{bound_of, kept_costs, is_kept, is_below};
     ghost use Rattle.driver_core.specs.Ends.{code_of};
     ghost use Rattle.driver_core.specs.Standing.{StandsFor};
-    ghost use Rattle.driver_core.specs.States.{is_done, accepts, all_codes};
+    ghost use Rattle.driver_core.specs.States.{is_done, is_at_end, accepts, all_codes};
     ghost use Rattle.driver_core.specs.States.{state_after, answer_of, after_candidate, candidate_answer};
+    ghost use Rattle.driver_core.specs.States.{in_round, with_plan, has_next, marks_in};
+    ghost use Rattle.driver_core.specs.Standing.{is_after};
+    ghost use Rattle.driver_core.specs.Rounds.{runs_in, share_of};
     ghost use Rattle.driver_core.specs.declared.events.Event.{Event};
 
     /// A core before the first event.
     ///
     /// Times are in milliseconds. There are 1 to 1,000 relative times, each from 1 to 1,000,000.
-    /// Plans must cost less than `bound`; with `single` the run ends with its first plan.
+    /// Plans must cost less than `bound`; with `single` the run ends with its first plan. With
+    /// `rounds` the entries that kept a plan run again in a next round, as long as there are any.
     pub fn new(
         alloc: Global,
         shares: &[u32],
@@ -72,14 +86,17 @@ impl Core {
         limit: Option<u64>,
         bound: Option<u64>,
         single: bool,
+        rounds: bool,
     ) -> Result<Core, NoMemory>
         requires some { 0 < length shares.now }
         requires few { length shares.now ≤ 1000 }
         requires each { list_all is_share shares.now ≡ true }
         ensures setting { IfOk result (λ core. core.setting
-            ≡ record { shares = shares.now; start = start; limit = limit; bound = bound; single = single }) }
+            ≡ record { shares = shares.now; start = start; limit = limit; bound = bound; single = single; rounds = rounds }) }
         ensures stands { IfOk result (λ core. StandsFor core []) }
     {
+        let running = vec![in alloc; true; shares.len()]?;
+        let keepers = vec![in alloc; false; shares.len()]?;
         let shares = Seq::from(duplicate_items(alloc, shares)?);
         let unended = shares.len() as u32;
         Ok(Core {
@@ -89,10 +106,14 @@ impl Core {
                 limit,
                 bound,
                 single,
+                rounds,
             },
+            round: 1,
+            running,
+            keepers,
+            unended,
             bound,
             kept: 0,
-            unended,
             last: false,
             out_of_time: false,
             codes: Codes::none(),
@@ -118,8 +139,12 @@ impl Core {
         ensures answer { result ≡ answer_of self.old event }
     {
         match event {
-            Event::Began { .. } => self.stop_or(Action::Go),
-            Event::Candidate { cost, .. } => self.offer(cost),
+            Event::Began { round, .. } => {
+                let action = self.stop_or(Action::Go);
+                self.enter(round);
+                action
+            }
+            Event::Candidate { entry, cost, .. } => self.offer(entry, cost),
             Event::Ended { part, last, .. } => {
                 self.unended = self.unended.saturating_sub(1);
                 self.last = self.last || last;
@@ -134,9 +159,20 @@ impl Core {
         }
     }
 
-    /// Takes a candidate, with its cost where it is a plan.
-    fn offer(&mut self, cost: Option<u64>) -> Action
-        ensures state { self.new ≡ after_candidate self.old cost }
+    /// A turn of this round begins. Where that is a later one, it has the entries that kept a plan.
+    fn enter(&mut self, round: u32)
+        ensures state { self.new ≡ in_round self.old round }
+    {
+        if self.round < round {
+            self.round = round;
+            self.unended = count(self.keepers.as_slice());
+            move_on(self.running.as_mut_slice(), self.keepers.as_mut_slice());
+        }
+    }
+
+    /// Takes a candidate of an entry, with its cost where it is a plan.
+    fn offer(&mut self, entry: u32, cost: Option<u64>) -> Action
+        ensures state { self.new ≡ after_candidate self.old entry cost }
         ensures answer { result ≡ candidate_answer self.old cost }
     {
         let Some(cost) = cost else {
@@ -146,9 +182,18 @@ impl Core {
             return self.stop_or(Action::Drop);
         }
         let index = self.kept;
+        self.keep(entry, cost);
+        Action::Keep { index }
+    }
+
+    /// Keeps a plan of an entry.
+    fn keep(&mut self, entry: u32, cost: u64)
+        requires few { self.old.kept < 9999 }
+        ensures state { self.new ≡ with_plan self.old entry cost }
+    {
         self.bound = Some(cost);
         self.kept += 1;
-        Action::Keep { index }
+        mark(self.keepers.as_mut_slice(), entry);
     }
 
     /// Whether a plan of this cost would be kept.
@@ -177,7 +222,21 @@ impl Core {
     fn is_done(&self) -> bool
         ensures { result ≡ is_done self.now }
     {
-        self.out_of_time || self.last || self.kept >= self.most() || self.unended == 0
+        self.out_of_time || self.last || self.kept >= self.most() || self.is_at_end()
+    }
+
+    /// Whether all turns of the present round have ended, and no other round follows.
+    fn is_at_end(&self) -> bool
+        ensures { result ≡ is_at_end self.now }
+    {
+        self.unended == 0 && !self.has_next()
+    }
+
+    /// Whether an entry runs in the round after the present one.
+    fn has_next(&self) -> bool
+        ensures { result ≡ has_next self.now }
+    {
+        self.setting.rounds && any_marked(self.keepers.as_slice())
     }
 
     /// Whether the run is over. Where it isn't, it hasn't been told to stop, and a plan more may be kept.
@@ -221,16 +280,50 @@ impl Core {
         }
     }
 
+    /// Which entries run in a round, where that is the present one or the next.
+    fn marks(&self, round: u32) -> Option<&[bool]>
+        ensures value { option_copied result ≡ marks_in self.now round }
+        ensures each { IfSome result (λ marks. length marks.now ≡ length self.now.setting.shares) }
+    {
+        if round == self.round {
+            Some(self.running.as_slice())
+        } else if self.setting.rounds && round.checked_sub(1) == Some(self.round) {
+            Some(self.keepers.as_slice())
+        } else {
+            None
+        }
+    }
+
+    /// Whether an entry runs in a round. No turn of a later round may have begun.
+    pub fn runs(&self, round: u32, entry: u32) -> bool
+        ensures { (events : List Event) → StandsFor self.now events → list_any (is_after round) events ≡ false
+            → result ≡ runs_in self.now.setting events round entry }
+    {
+        match self.marks(round) {
+            Some(marks) => has_mark(marks, entry),
+            None => false,
+        }
+    }
+
     /// An entry's share of the time that is left at a moment, in milliseconds, where the run has a
-    /// limit: as its relative time stands to those of the entries from this one on, at least 1.
-    pub fn share(&self, entry: u32, moment: u64) -> Option<u64>
+    /// limit: as its relative time stands to those of the entries of its round from this one on, at
+    /// least 1. The entry must run in the round, and no turn of a later round may have begun.
+    pub fn share(&self, round: u32, entry: u32, moment: u64) -> Option<u64>
         requires first { 1 ≤ entry }
         requires last { entry ≤ length self.now.setting.shares }
         requires begun { self.now.setting.start ≤ moment }
-        ensures { result ≡ share_of self.now.setting entry moment }
+        ensures { (events : List Event) → StandsFor self.now events → list_any (is_after round) events ≡ false
+            → runs_in self.now.setting events round entry ≡ true
+            → result ≡ share_of self.now.setting events round entry moment }
     {
         let limit = self.setting.limit?;
         let left = limit.saturating_sub(moment - self.setting.start);
-        Some(portion(left, self.setting.shares.as_slice(), entry as usize - 1))
+        let marks = self.marks(round)?;
+        Some(portion(
+            left,
+            self.setting.shares.as_slice(),
+            marks,
+            entry as usize - 1,
+        ))
     }
 }

@@ -1,17 +1,33 @@
 use exit_codes::Part;
 
-/// What a driver tells its core. Entries are numbered from 1, and may run at the same time.
+/// What a driver tells its core. Rounds and entries are numbered from 1. An entry has a turn in each
+/// round in which it runs, and the turns of one round may be on at the same time.
 #[derive(Clone, Copy, Debug, PartialEq, Eq)]
 pub enum Event {
-    /// An entry begins, at a moment in milliseconds.
-    Began { entry: u32, moment: u64 },
-    /// A running entry offers a candidate. Its cost is there where the candidate is a plan.
-    Candidate { entry: u32, cost: Option<u64> },
-    /// A running entry ended. `last` says that the others have nothing left to do: it proved that
+    /// A turn begins, at a moment in milliseconds.
+    Began {
+        round: u32,
+        entry: u32,
+        moment: u64,
+    },
+    /// A turn that is on offers a candidate. Its cost is there where the candidate is a plan.
+    Candidate {
+        round: u32,
+        entry: u32,
+        cost: Option<u64>,
+    },
+    /// A turn that was on ended. `last` says that the others have nothing left to do: it proved that
     /// no plan exists, or that its plan is best.
-    Ended { entry: u32, part: Part, last: bool },
+    Ended {
+        round: u32,
+        entry: u32,
+        part: Part,
+        last: bool,
+    },
     /// The time of the whole run is over, at a moment in milliseconds.
-    OutOfTime { moment: u64 },
+    OutOfTime {
+        moment: u64,
+    },
 }
 
 /// What the driver does then.

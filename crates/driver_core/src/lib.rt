@@ -3,11 +3,10 @@
 
 mod driver;
 mod events;
+mod marks;
 mod runs;
 mod settings;
 mod shares;
-#[cfg(test)]
-mod tests;
 
 pub use driver::Core;
 pub use events::{Action, Event};

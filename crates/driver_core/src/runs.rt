@@ -19,16 +19,17 @@ pub fn actions(
     limit: Option<u64>,
     bound: Option<u64>,
     single: bool,
+    rounds: bool,
     events: &[Event],
 ) -> Result<Vec<Action>, NoMemory>
     requires some { 0 < length shares.now }
     requires few { length shares.now ≤ 1000 }
     requires each { list_all is_share shares.now ≡ true }
     ensures { let setting : Setting =
-        record { shares = shares.now; start = start; limit = limit; bound = bound; single = single } in
+        record { shares = shares.now; start = start; limit = limit; bound = bound; single = single; rounds = rounds } in
         IfOk result (λ actions. IsLegal setting events.now → actions.items ≡ actions_of setting events.now) }
 {
-    let mut core = Core::new(alloc, shares, start, limit, bound, single)?;
+    let mut core = Core::new(alloc, shares, start, limit, bound, single, rounds)?;
     let mut actions = Vec::with_capacity(alloc, events.len())?;
     for event in events {
         actions.push(core.step(*event))?;

@@ -13,4 +13,6 @@ pub struct Setting {
     pub bound: Option<u64>,
     /// Whether the run ends with its first plan.
     pub single: bool,
+    /// Whether entries that kept a plan run again, round after round.
+    pub rounds: bool,
 }

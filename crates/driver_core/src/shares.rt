@@ -1,25 +1,37 @@
 // An entry's portion of the time that is left.
-ghost use Rattle.std.specs.Prelude.{◌≡◌, ◌<◌, ◌≤◌, true, length, drop, sum};
+ghost use Rattle.std.specs.Prelude.{◌≡◌, ◌+◌, ◌*◌, ◌^◌, ◌<◌, ◌≤◌, true, length, drop, slice_index};
 ghost use Rattle.std.specs.List.{list_all};
-ghost use Rattle.driver_core.specs.Settings.{is_share, portion_of};
+ghost use Rattle.driver_core.specs.Settings.{is_share};
+ghost use Rattle.driver_core.specs.Rounds.{portion_of};
+ghost use Rattle.driver_core.specs.States.{marked_time};
 
-/// The portion of the entry at this place, by the relative times of it and of those behind it.
-pub(crate) fn portion(left: u64, shares: &[u32], place: usize) -> u64
+/// The portion of the entry at this place, by its relative time and those of the marked ones behind it.
+pub(crate) fn portion(left: u64, shares: &[u32], marks: &[bool], place: usize) -> u64
     requires within { place < length shares.now }
+    requires same { length marks.now ≡ length shares.now }
     requires few { length shares.now ≤ 1000 }
     requires each { list_all is_share shares.now ≡ true }
-    ensures { result ≡ portion_of left (drop place shares.now) }
+    ensures { result ≡ portion_of left (slice_index shares.now place)
+        (slice_index shares.now place + marked_time (drop (place + 1) shares.now) (drop (place + 1) marks.now)) }
 {
-    let own = u128::from(shares[place]);
-    let all = u128::from(total(&shares[place..]));
-    let portion = u128::from(left) * own / all;
+    let own = u64::from(shares[place]);
+    let all = own + total(&shares[place + 1..], &marks[place + 1..]);
+    let portion = u128::from(left) * u128::from(own) / u128::from(all);
     (portion as u64).max(1)
 }
 
-/// The relative times together.
-fn total(shares: &[u32]) -> u64
-    requires { length shares.now ≤ 1000 }
-    ensures { result ≡ sum shares.now }
+/// The relative times of the marked entries together.
+fn total(shares: &[u32], marks: &[bool]) -> u64
+    requires same { length marks.now ≡ length shares.now }
+    requires few { length shares.now ≤ 1000 }
+    ensures value { result ≡ marked_time shares.now marks.now }
+    ensures small { result ≤ 1000 * 2 ^ 32 }
 {
-    shares.iter().map(|share| u64::from(*share)).sum()
+    let mut total = 0;
+    for place in 0..shares.len() {
+        if marks[place] {
+            total += u64::from(shares[place]);
+        }
+    }
+    total
 }

@@ -4,8 +4,6 @@
 mod combined;
 mod parts;
 mod sets;
-#[cfg(test)]
-mod tests;
 
 pub use combined::combine;
 pub use parts::{Part, norm};

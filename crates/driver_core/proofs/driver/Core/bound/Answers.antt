@@ -8,4 +8,4 @@ pub returns-clause-keeps : goal.returns-clause-keeps
 returns-clause-keeps c =
     λ events stands open_ cost.
     kept_where_below c.args.self.now.setting events cost open_
-    ∙ sym (ap (λ (s : CoreState). is_below s.bound cost) c.self.view_is ∙ ap (λ b. is_below b cost) stands.bound)
+    ∙ sym (ap (λ (s : CoreState). is_below s.bound cost) c.self.view_is ∙ ap (λ b. is_below b cost) stands.holds.bound)

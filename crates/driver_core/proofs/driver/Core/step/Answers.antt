@@ -8,4 +8,4 @@ returns-clause-stands c =
 
 pub returns-clause-answers : goal.returns-clause-answers
 returns-clause-answers c =
-    λ events stands allowed. c.advance.ensures.answer ∙ answers c.args.self.now events c.args.event stands allowed
+    λ events stands allowed. c.advance.ensures.answer ∙ answers c.args.self.now events c.args.event stands.holds allowed
