@@ -3,7 +3,7 @@ ghost use Rattle.std.specs.Prelude.{◌≡◌, ◌≢◌, ◌≤◌, List, [], l
 ghost use Rattle.lama_num.specs.Names.{IsEntryNumber};
 ghost use Rattle.host_mem.specs.Memory.{told_of};
 ghost use Rattle.driver_core.specs.declared.events.Event.{Event as TheEvent};
-ghost use Rattle.driver_core.specs.Legal.{Runs};
+ghost use Rattle.driver_core.specs.Turns.{turn_of, IsOn};
 ghost use Rattle.candidates.specs.Gathering.{IsGathering};
 
 use candidates::{Candidate, Found, collect};
@@ -66,10 +66,11 @@ fn host(alloc: Global, scripts: Vec<Script>) -> MemHost
 
 /// A core whose one entry has begun.
 fn one_entry(alloc: Global) -> Result<Core, NoMemory>
-    ensures { IfOk result (λ core. (events : List TheEvent) × IsGathering core events 1 [] × Runs events 1) }
+    ensures { IfOk result (λ core. (events : List TheEvent) × IsGathering core events 1 [] × IsOn events (turn_of 1 1)) }
 {
-    let mut core = Core::new(alloc, &[1], 0, None, None, false)?;
+    let mut core = Core::new(alloc, &[1], 0, None, None, false, false)?;
     core.step(Event::Began {
+        round: 1,
         entry: 1,
         moment: 0,
     });
@@ -78,14 +79,16 @@ fn one_entry(alloc: Global) -> Result<Core, NoMemory>
 
 /// A core whose two entries have begun.
 fn two_entries(alloc: Global) -> Result<Core, NoMemory>
-    ensures { IfOk result (λ core. (events : List TheEvent) × IsGathering core events 1 [] × Runs events 2) }
+    ensures { IfOk result (λ core. (events : List TheEvent) × IsGathering core events 1 [] × IsOn events (turn_of 1 2)) }
 {
-    let mut core = Core::new(alloc, &[1, 1], 0, None, None, false)?;
+    let mut core = Core::new(alloc, &[1, 1], 0, None, None, false, false)?;
     core.step(Event::Began {
+        round: 1,
         entry: 1,
         moment: 0,
     });
     core.step(Event::Began {
+        round: 1,
         entry: 2,
         moment: 0,
     });
@@ -127,9 +130,9 @@ fn run_entry(
 ) -> Result<(), Ended>
     requires idle { (told_of host.old).busy ≡ [] }
     requires entry { IsEntryNumber entry }
-    requires running { (events : List TheEvent) × IsGathering core.old events entry kept.old.items × Runs events other }
+    requires running { (events : List TheEvent) × IsGathering core.old events entry kept.old.items × IsOn events (turn_of 1 other) }
     ensures idle { OnOk result ((told_of host.new).busy ≡ []) }
-    ensures other { OnOk result (entry ≢ other → (events : List TheEvent) × IsGathering core.new events other kept.new.items × Runs events other) }
+    ensures other { OnOk result (entry ≢ other → (events : List TheEvent) × IsGathering core.new events other kept.new.items × IsOn events (turn_of 1 other)) }
 {
     let end = run_child(alloc, host)?;
     let before = kept.len();
@@ -139,6 +142,7 @@ fn run_entry(
     )?;
     let part = part_of(end, kept.len() > before);
     core.step(Event::Ended {
+        round: 1,
         entry,
         part,
         last: false,

@@ -54,7 +54,7 @@ good_plans entry file verdict ops cost is = ap (λ v. plans_of entry (judged_as 
 pub good_candidates : (entry count file : ℕ) (verdict : Verdict) (ops : List ℕ) (cost : ℕ) → verdict ≡ Good ops cost → candidates_of entry count (judged_as file verdict ∷ []) ≡ record { entry = entry; file = Some file; found = IsKept count } ∷ []
 good_candidates entry count file verdict ops cost is = candidates_of-one entry count file verdict ∙ ap (λ v. candidate_of entry count (judged_as file v) ∷ []) is
 
-pub good_offer : (entry file : ℕ) (verdict : Verdict) (ops : List ℕ) (cost : ℕ) → verdict ≡ Good ops cost → offer_of entry (judged_as file verdict) ≡ Offer entry (Some cost)
+pub good_offer : (entry file : ℕ) (verdict : Verdict) (ops : List ℕ) (cost : ℕ) → verdict ≡ Good ops cost → offer_of entry (judged_as file verdict) ≡ Offer 1 entry (Some cost)
 good_offer entry file verdict ops cost is = ap (λ v. offer_of entry (judged_as file v)) is
 
 pub good_bound : (bound : Option ℕ) (verdict : Verdict) (ops : List ℕ) (cost : ℕ) → verdict ≡ Good ops cost → IsByBound bound verdict → is_below bound cost ≡ true
@@ -68,7 +68,7 @@ bad_plans entry file verdict fault is = ap (λ v. plans_of entry (judged_as file
 pub bad_candidates : (entry count file : ℕ) (verdict : Verdict) (fault : PlanFault) → verdict ≡ Bad fault → candidates_of entry count (judged_as file verdict ∷ []) ≡ record { entry = entry; file = Some file; found = Dropped fault } ∷ []
 bad_candidates entry count file verdict fault is = candidates_of-one entry count file verdict ∙ ap (λ v. candidate_of entry count (judged_as file v) ∷ []) is
 
-pub bad_offer : (entry file : ℕ) (verdict : Verdict) (fault : PlanFault) → verdict ≡ Bad fault → offer_of entry (judged_as file verdict) ≡ Offer entry (real_cost fault)
+pub bad_offer : (entry file : ℕ) (verdict : Verdict) (fault : PlanFault) → verdict ≡ Bad fault → offer_of entry (judged_as file verdict) ≡ Offer 1 entry (real_cost fault)
 bad_offer entry file verdict fault is = ap (λ v. offer_of entry (judged_as file v)) is
 
 pub bad_bound : (bound : Option ℕ) (verdict : Verdict) (fault : PlanFault) → verdict ≡ Bad fault → IsByBound bound verdict → (cost : ℕ) → real_cost fault ≡ Some cost → is_below bound cost ≡ false

@@ -13,7 +13,7 @@ use Rattle.plan_check.specs.declared.verdicts.Verdict.TheVariants.{Good, Bad}
 use Rattle.plan_check.specs.Verdicts.{verdict_of}
 use Rattle.plan_manager.specs.Family.{family_name}
 use Rattle.driver_core.specs.declared.events.Event.{Event}
-use Rattle.driver_core.specs.declared.events.Event.TheVariants.{Candidate as Offer}
+use Rattle.driver_core.specs.Turns.{turn_of, offers}
 use Rattle.driver_core.specs.declared.settings.Setting.{Setting}
 use Rattle.driver_core.specs.Keeping.{bound_of}
 use Rattle.driver_core.specs.Running.{is_over_after}
@@ -66,9 +66,9 @@ abbrev pub verdict_cost : Verdict → Option ℕ
 verdict_cost (Good ops cost) = Some cost
 verdict_cost (Bad fault) = real_cost fault
 
--- what the core is told of it
+-- what the core is told of it, in the first round
 abbrev pub offer_of : ℕ → Judged → Event
-offer_of entry judged = Offer entry (verdict_cost judged.verdict)
+offer_of entry judged = offers (turn_of 1 entry) (verdict_cost judged.verdict)
 
 abbrev pub judged_as : ℕ → Verdict → Judged
 judged_as number verdict = record { number = number; verdict = verdict }

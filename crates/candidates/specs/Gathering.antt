@@ -16,17 +16,17 @@ use Rattle.driver_core.specs.declared.settings.Setting.{Setting}
 use Rattle.driver_core.specs.Settings.{most_plans}
 use Rattle.driver_core.specs.Keeping.{kept_costs, is_kept, is_below, bound_of}
 use Rattle.driver_core.specs.Running.{is_over_after, has_stopped}
-use Rattle.driver_core.specs.Legal.{Runs}
+use Rattle.driver_core.specs.Turns.{turn_of, IsOn}
 use Rattle.driver_core.specs.Standing.{StandsFor}
 use Rattle.driver_core.specs.States.{CoreState}
 use Rattle.candidates.specs.declared.offers.Candidate.{Candidate}
 use Rattle.candidates.specs.declared.reading.ReadError.{ReadError}
 use Rattle.candidates.specs.Collecting.{Judged, real_cost, offer_of, plans_of, candidates_of, judged_in, files_from}
 
--- The core stands for these events, the entry runs, and the kept plans are those of the core.
+-- The core stands for these events, the entry's turn in the first round is on, and the kept plans are those of the core.
 pub record IsGathering (core : CoreState) (events : List Event) (entry : ℕ) (kept : List Kept) : Type 0 where
   pub stands : StandsFor core events
-  pub runs : Runs events entry
+  pub on : IsOn events (turn_of 1 entry)
   pub costs : kept_costs core.setting events ≡ map (λ (plan : Kept). plan.cost) kept
 
 -- The run isn't over after these events, and of the plans that come now just those below the bound are kept.

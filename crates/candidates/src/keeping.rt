@@ -67,7 +67,7 @@ fn keep_candidate<F: Folder>(
         (WritesPlans base.now many task.now (length kept.old.items) (plan ∷ []))) }
     ensures core { OnOk result ((events : List TheEvent) (bound : Option ℕ) → IsGathering core.old events plan.entry kept.old.items
         → IsOpen core.old.setting events bound → is_below bound plan.cost ≡ true
-        → IsGathering core.new (events ++ Offer plan.entry (Some plan.cost) ∷ []) plan.entry kept.new.items) }
+        → IsGathering core.new (events ++ Offer 1 plan.entry (Some plan.cost) ∷ []) plan.entry kept.new.items) }
 {
     if make_room(kept, candidates).is_err() {
         return Err(ReadError::NoMemory);
@@ -75,6 +75,7 @@ fn keep_candidate<F: Folder>(
     let index = kept.len() as u32;
     let entry = plan.entry;
     core.step(Event::Candidate {
+        round: 1,
         entry,
         cost: Some(plan.cost),
     });
@@ -104,11 +105,15 @@ fn drop_candidate(
         ++ record { entry = entry; file = Some file; found = Found.Dropped fault } ∷ []) }
     ensures core { OnOk result ((events : List TheEvent) (kept : List TheKept) (bound : Option ℕ) → IsGathering core.old events entry kept
         → IsOpen core.old.setting events bound → ((cost : ℕ) → the_real_cost fault ≡ Some cost → is_below bound cost ≡ false)
-        → IsGathering core.new (events ++ Offer entry (the_real_cost fault) ∷ []) entry kept) }
+        → IsGathering core.new (events ++ Offer 1 entry (the_real_cost fault) ∷ []) entry kept) }
 {
     candidates.reserve(1)?;
     let cost = real_cost(fault);
-    core.step(Event::Candidate { entry, cost });
+    core.step(Event::Candidate {
+        round: 1,
+        entry,
+        cost,
+    });
     candidates.push_reserved(Candidate {
         entry,
         file: Some(file),

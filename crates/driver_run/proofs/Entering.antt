@@ -23,7 +23,9 @@ use Rattle.sas_task.specs.Runs.{IsPlanOf}
 use Rattle.plain_search.specs.Visits.{HasNoPlan}
 use Rattle.driver_core.specs.declared.events.Event.{Event}
 use Rattle.driver_core.specs.declared.events.Event.TheVariants.{Began, Candidate, Ended}
-use Rattle.driver_core.specs.Legal.{IsAllowed, Runs}
+use Rattle.driver_core.specs.Turns.{turn_of, IsOn}
+use Rattle.driver_core.specs.Legal.{IsAllowed}
+use Rattle.driver_core.specs.Laws.{none_before_first}
 use Rattle.driver_core.specs.Ends.{code_of}
 use Rattle.driver_run.specs.declared.entry.Times.{Times}
 use Rattle.candidates.specs.declared.offers.Candidate.{Candidate as Offered}
@@ -34,29 +36,29 @@ use Rattle.driver_run.specs.RunEvents.{set_at}
 use Rattle.driver_run.specs.Entries.{IsSolved}
 
 -- the entry may begin, offer a plan, and end
-pub may_begin : (start began : ℕ) → start ≤ began → IsAllowed (set_at start) [] (Began 1 began)
-may_begin start began later = record { first = omega arith; last = omega arith; new = refl; timely = All-cons (λ earlier. earlier ≤ began) start [] later (All-nil (λ earlier. earlier ≤ began)); going = refl }
+pub may_begin : (start began : ℕ) → start ≤ began → IsAllowed (set_at start) [] (Began 1 1 began)
+may_begin start began later = record { runs = refl; earlier = none_before_first (set_at start) []; new = refl; timely = All-cons (λ earlier. earlier ≤ began) start [] later (All-nil (λ earlier. earlier ≤ began)); going = refl }
 
-pub may_offer : (start began cost : ℕ) → IsAllowed (set_at start) (Began 1 began ∷ []) (Candidate 1 (Some cost))
-may_offer start began cost = record { runs = record { begun = refl; unended = refl }; going = refl }
+pub may_offer : (start began cost : ℕ) → IsAllowed (set_at start) (Began 1 1 began ∷ []) (Candidate 1 1 (Some cost))
+may_offer start began cost = record { on = record { begun = refl; unended = refl }; going = refl }
 
-pub runs_begun : (began : ℕ) → Runs (Began 1 began ∷ []) 1
+pub runs_begun : (began : ℕ) → IsOn (Began 1 1 began ∷ []) (turn_of 1 1)
 runs_begun began = record { begun = refl; unended = refl }
 
-pub runs_offered : (began cost : ℕ) → Runs (Began 1 began ∷ Candidate 1 (Some cost) ∷ []) 1
+pub runs_offered : (began cost : ℕ) → IsOn (Began 1 1 began ∷ Candidate 1 1 (Some cost) ∷ []) (turn_of 1 1)
 runs_offered began cost = record { begun = refl; unended = refl }
 
 -- a core that had no event, and then the beginning
 pub stands_begun : (core next : CoreState) (start began : ℕ) → core.setting ≡ set_at start → StandsFor core [] → start ≤ began →
-    ((events : List Event) → StandsFor core events → IsAllowed core.setting events (Began 1 began) → StandsFor next (events ++ Began 1 began ∷ [])) →
-    StandsFor next (Began 1 began ∷ [])
-stands_begun core next start began set stands later step = step [] stands (subst (λ s. IsAllowed s [] (Began 1 began)) (sym set) (may_begin start began later))
+    ((events : List Event) → StandsFor core events → IsAllowed core.setting events (Began 1 1 began) → StandsFor next (events ++ Began 1 1 began ∷ [])) →
+    StandsFor next (Began 1 1 began ∷ [])
+stands_begun core next start began set stands later step = step [] stands (subst (λ s. IsAllowed s [] (Began 1 1 began)) (sym set) (may_begin start began later))
 
 -- and then a plan
-pub stands_offered : (core next : CoreState) (start began cost : ℕ) → core.setting ≡ set_at start → StandsFor core (Began 1 began ∷ []) →
-    ((events : List Event) → StandsFor core events → IsAllowed core.setting events (Candidate 1 (Some cost)) → StandsFor next (events ++ Candidate 1 (Some cost) ∷ [])) →
-    StandsFor next (Began 1 began ∷ Candidate 1 (Some cost) ∷ [])
-stands_offered core next start began cost set stands step = step (Began 1 began ∷ []) stands (subst (λ s. IsAllowed s (Began 1 began ∷ []) (Candidate 1 (Some cost))) (sym set) (may_offer start began cost))
+pub stands_offered : (core next : CoreState) (start began cost : ℕ) → core.setting ≡ set_at start → StandsFor core (Began 1 1 began ∷ []) →
+    ((events : List Event) → StandsFor core events → IsAllowed core.setting events (Candidate 1 1 (Some cost)) → StandsFor next (events ++ Candidate 1 1 (Some cost) ∷ [])) →
+    StandsFor next (Began 1 1 began ∷ Candidate 1 1 (Some cost) ∷ [])
+stands_offered core next start began cost set stands step = step (Began 1 1 began ∷ []) stands (subst (λ s. IsAllowed s (Began 1 1 began ∷ []) (Candidate 1 1 (Some cost))) (sym set) (may_offer start began cost))
 
 -- a plan that was placed under the base changes nothing outside
 pub kept_outside : (before now : Told) (base text : List ℕ) → base ≡ base_name → Changes before now (PlacesPlan {T = Unit {0}} {E = Failed} (Ok tt) base false 1 text) → Leaves before now (SameOutside base_name)
@@ -75,7 +77,7 @@ none_at y k at = let s : None ≡ Some y = at in cc
 
 -- with its plan kept
 pub solved_by_plan : (parts : Parts) (times : Times) (ops : List ℕ) (cost code : ℕ) → IsPlanOf parts ops cost → times.start ≤ times.began →
-    code ≡ code_of (set_at times.start) (Began 1 times.began ∷ Candidate 1 (Some cost) ∷ Ended 1 part.Over false ∷ []) →
+    code ≡ code_of (set_at times.start) (Began 1 1 times.began ∷ Candidate 1 1 (Some cost) ∷ Ended 1 1 part.Over false ∷ []) →
     IsSolved parts times (record {
       kept = record { entry = 1; ops = ops; cost = cost } ∷ [];
       candidates = record { entry = 1; file = None; found = WasKept 0 } ∷ [];
@@ -103,7 +105,7 @@ solved_by_plan parts times ops cost code plan later is = record {
 
 -- with the whole space
 pub solved_by_space : (parts : Parts) (times : Times) (space : List Member) (code : ℕ) → IsExhausted parts space → HasNoPlan parts → times.start ≤ times.began →
-    code ≡ code_of (set_at times.start) (Began 1 times.began ∷ Ended 1 part.Unsolvable true ∷ []) →
+    code ≡ code_of (set_at times.start) (Began 1 1 times.began ∷ Ended 1 1 part.Unsolvable true ∷ []) →
     IsSolved parts times (record {
       kept = [];
       candidates = [];

@@ -3,8 +3,8 @@ use Rattle.std.specs.Prelude.{◌≡◌, ℕ, ◌≤◌, Bool, true, false, nat_
 use Rattle.std.specs.List.{flat_map}
 use Rattle.sas_task.specs.declared.plans.Kept.{Kept}
 use Rattle.driver_core.specs.declared.events.Event.{Event}
-use Rattle.driver_core.specs.declared.events.Event.TheVariants as event
 use Rattle.driver_core.specs.declared.settings.Setting.{Setting}
+use Rattle.driver_core.specs.Turns.{turn_of, begins_at, offers, ends_as}
 use Rattle.driver_core.specs.Keeping.{kept_costs}
 use Rattle.driver_core.specs.Running.{is_over_after}
 use Rattle.driver_core.specs.Legal.{IsLegal}
@@ -26,7 +26,7 @@ found_cost kept (found.Kept index) = option_map (λ (plan : Kept). plan.cost) (s
 found_cost kept (found.Dropped fault) = real_cost fault
 
 abbrev pub candidate_event : List Kept → Candidate → Event
-candidate_event kept candidate = event.Candidate candidate.entry (found_cost kept candidate.found)
+candidate_event kept candidate = offers (turn_of 1 candidate.entry) (found_cost kept candidate.found)
 
 -- an end that leaves other entries nothing to do
 abbrev pub is_last : Outcome → Bool
@@ -34,20 +34,20 @@ is_last outcome.Over = false
 is_last (outcome.Unsolvable space) = true
 
 abbrev pub end_event : EntryEnd → Event
-end_event end = event.Ended end.entry (part_of end.outcome) (is_last end.outcome)
+end_event end = ends_as (turn_of 1 end.entry) (part_of end.outcome) (is_last end.outcome)
 
 -- the beginning of an entry, its candidates in order, and its end
 abbrev pub entry_events : List Kept → List Candidate → EntryEnd → List Event
 entry_events kept candidates end =
-    event.Began end.entry end.began
+    begins_at (turn_of 1 end.entry) end.began
     ∷ (map (candidate_event kept) (filter (λ (candidate : Candidate). nat_eq candidate.entry end.entry) candidates) ++ end_event end ∷ [])
 
 abbrev pub events_of : Report → List Event
 events_of report = flat_map (entry_events report.kept report.candidates) report.ends
 
--- one entry, and no limit
+-- one entry, one round, and no limit
 abbrev pub set_at : ℕ → Setting
-set_at start = record { shares = 1 ∷ []; start = start; limit = None; bound = None; single = false }
+set_at start = record { shares = 1 ∷ []; start = start; limit = None; bound = None; single = false; rounds = false }
 
 abbrev pub setting_of : Report → Setting
 setting_of report = set_at report.start

@@ -9,7 +9,7 @@ ghost use Rattle.sas_task.specs.Runs.{IsPlanOf};
 ghost use Rattle.plain_search.specs.Visits.{HasNoPlan};
 ghost use Rattle.driver_core.specs.declared.events.Event.{Event as TheEvent};
 ghost use Rattle.driver_core.specs.Ends.{code_of as code_by_events};
-ghost use Rattle.driver_core.specs.Legal.{Runs};
+ghost use Rattle.driver_core.specs.Turns.{turn_of, IsOn};
 ghost use Rattle.driver_core.specs.Standing.{StandsFor};
 ghost use Rattle.driver_run.specs.Leaves.{LeavesPlans};
 ghost use Rattle.driver_run.specs.RunEvents.{set_at};
@@ -26,6 +26,9 @@ use plain_search::{Found as Searched, Space, search};
 use plan_manager::{keep, seal};
 use sas_task::{Kept, Task};
 use std::alloc::Global;
+
+/// The number of the one round.
+const ROUND: u32 = 1;
 
 /// The number of the one entry.
 const ENTRY: u32 = 1;
@@ -86,10 +89,11 @@ fn end_of(alloc: Global, times: Times, outcome: Outcome) -> Result<Seq<EntryEnd>
 fn begin(alloc: Global, times: Times) -> Result<Core, NoMemory>
     requires { times.start ≤ times.began }
     ensures setting { IfOk result (λ core. core.setting ≡ set_at times.start) }
-    ensures stands { IfOk result (λ core. StandsFor core (TheEvent.Began 1 times.began ∷ [])) }
+    ensures stands { IfOk result (λ core. StandsFor core (TheEvent.Began 1 1 times.began ∷ [])) }
 {
-    let mut core = Core::new(alloc, &[1], times.start, None, None, false)?;
+    let mut core = Core::new(alloc, &[1], times.start, None, None, false, false)?;
     core.step(Event::Began {
+        round: ROUND,
         entry: ENTRY,
         moment: times.began,
     });
@@ -99,10 +103,11 @@ fn begin(alloc: Global, times: Times) -> Result<Core, NoMemory>
 /// Tells the core of a plan.
 fn offer(core: &mut Core, cost: u64)
     ensures setting { core.new.setting ≡ core.old.setting }
-    ensures stands { (start began : ℕ) → core.old.setting ≡ set_at start → StandsFor core.old (TheEvent.Began 1 began ∷ []) →
-        StandsFor core.new (TheEvent.Began 1 began ∷ TheEvent.Candidate 1 (Some cost) ∷ []) }
+    ensures stands { (start began : ℕ) → core.old.setting ≡ set_at start → StandsFor core.old (TheEvent.Began 1 1 began ∷ []) →
+        StandsFor core.new (TheEvent.Began 1 1 began ∷ TheEvent.Candidate 1 1 (Some cost) ∷ []) }
 {
     core.step(Event::Candidate {
+        round: ROUND,
         entry: ENTRY,
         cost: Some(cost),
     });
@@ -110,10 +115,11 @@ fn offer(core: &mut Core, cost: u64)
 
 /// Tells the core that the entry ended, and gives the code of the run.
 fn end(core: &mut Core, part: Part, last: bool) -> u8
-    ensures { (events : List TheEvent) → StandsFor core.old events → Runs events 1 →
-        result ≡ code_by_events core.old.setting (events ++ TheEvent.Ended 1 part last ∷ []) }
+    ensures { (events : List TheEvent) → StandsFor core.old events → IsOn events (turn_of 1 1) →
+        result ≡ code_by_events core.old.setting (events ++ TheEvent.Ended 1 1 part last ∷ []) }
 {
     core.step(Event::Ended {
+        round: ROUND,
         entry: ENTRY,
         part,
         last,
@@ -138,7 +144,7 @@ fn keep_plan<F: Folder>(
     requires plan { IsPlanOf task.now ops cost }
     requires time { times.start ≤ times.began }
     requires setting { core.setting ≡ set_at times.start }
-    requires stands { StandsFor core (TheEvent.Began 1 times.began ∷ []) }
+    requires stands { StandsFor core (TheEvent.Began 1 1 times.began ∷ []) }
     ensures busy { IfOk result (λ _. (F.told folder.new).busy ≡ []) }
     ensures later { (F.told folder.old).faults ≤ (F.told folder.new).faults }
     ensures fault { IfOk result (λ solved. solved ≡ None → Rose (F.told folder.old).faults (F.told folder.new).faults) }
@@ -183,7 +189,7 @@ fn keep_plan<F: Folder>(
 fn give_up(alloc: Global, core: Core, times: Times, space: Space) -> Result<Solved, NoMemory>
     requires time { times.start ≤ times.began }
     requires setting { core.setting ≡ set_at times.start }
-    requires stands { StandsFor core (TheEvent.Began 1 times.began ∷ []) }
+    requires stands { StandsFor core (TheEvent.Began 1 1 times.began ∷ []) }
     ensures solved { (parts : TheParts) → IsExhausted parts space → HasNoPlan parts → IfOk result (IsSolved parts times) }
 {
     let mut core = core;

@@ -7,4 +7,4 @@ pub returns : goal.returns
 returns c =
     let core = c.step.new.self in
     let gathers = one_gathers core (one_begun c.in_ok-core.core core (1 ∷ []) c.in_ok-core.ensures.setting (omega arith) c.in_ok-core.ensures.stands (c.step.ensures.stands [])) in
-    (Began 1 0 ∷ [], gathers, gathers.runs)
+    (Began 1 1 0 ∷ [], gathers, gathers.on)

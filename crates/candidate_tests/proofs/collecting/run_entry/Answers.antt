@@ -12,7 +12,7 @@ returns-clause-other c apart =
     let events = c.requires.running.0 in
     let has = c.in_ok-collect.ensures.gathers events c.requires.running.1 in
     let past = events ++ map (offer_of c.args.entry) has.0 in (
-      past ++ Ended c.args.entry c.part_of-part.result false ∷ [],
+      past ++ Ended 1 c.args.entry c.part_of-part.result false ∷ [],
       other_gathers c.collect.new.core c.step.new.self events c.args.entry c.args.other has.0 c.collect.new.kept.items c.part_of-part.result apart c.requires.running.2 c.step.ensures.setting (c.step.ensures.stands past)
           (has.1.gathering (λ failed. cc)),
       goes_on_running events c.args.entry c.args.other has.0 c.part_of-part.result apart c.requires.running.2,

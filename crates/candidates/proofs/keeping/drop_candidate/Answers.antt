@@ -7,5 +7,5 @@ use Rattle.candidates.proofs.keeping.drop_candidate.Goals as goal
 pub returns-clause-core : goal.returns-clause-core
 returns-clause-core c events kept bound gathering goes above =
     plan_dropped c.args.core.now c.step.new.self events c.args.entry kept bound (the_real_cost c.args.fault) c.step.ensures.setting
-    (subst (λ cost. Stands c.args.core.now c.step.new.self events (Offer c.args.entry cost)) c.real_cost-cost.ensures (c.step.ensures.stands events))
+    (subst (λ cost. Stands c.args.core.now c.step.new.self events (Offer 1 c.args.entry cost)) c.real_cost-cost.ensures (c.step.ensures.stands events))
     gathering goes above

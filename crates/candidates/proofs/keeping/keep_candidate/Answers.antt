@@ -16,7 +16,7 @@ returns-clause-writes g c =
 pub returns-clause-core : goal.returns-clause-core
 returns-clause-core g c events bound gathering goes below =
     let entry = c.args.plan.entry in
-    subst (IsGathering c.step.new.self (events ++ Offer entry (Some c.args.plan.cost) ∷ []) entry)
+    subst (IsGathering c.step.new.self (events ++ Offer 1 entry (Some c.args.plan.cost) ∷ []) entry)
     (sym (c.push_reserved.ensures.items ∙ ap (λ kept. kept ++ c.args.plan ∷ []) c.make_room.ensures.same.0))
     (plan_kept c.args.core.now c.step.new.self events entry c.args.kept.now.items c.args.plan bound c.step.ensures.setting (c.step.ensures.stands events) gathering goes below)
 

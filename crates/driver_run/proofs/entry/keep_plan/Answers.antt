@@ -15,6 +15,6 @@ returns-clause-solved g c =
     let times = c.args.times in
     let stands = c.offer.ensures.stands times.start times.began c.requires.setting c.requires.stands in
     let code =
-    c.end-code.ensures (Began 1 times.began ∷ Candidate 1 (Some c.args.cost) ∷ []) stands (runs_offered times.began c.args.cost)
-    ∙ ap (λ s. code_of s (Began 1 times.began ∷ Candidate 1 (Some c.args.cost) ∷ Ended 1 Over false ∷ [])) (c.offer.ensures.setting ∙ c.requires.setting) in
+    c.end-code.ensures (Began 1 1 times.began ∷ Candidate 1 1 (Some c.args.cost) ∷ []) stands (runs_offered times.began c.args.cost)
+    ∙ ap (λ s. code_of s (Began 1 1 times.began ∷ Candidate 1 1 (Some c.args.cost) ∷ Ended 1 1 Over false ∷ [])) (c.offer.ensures.setting ∙ c.requires.setting) in
     rw (c.in_ok-kept.ensures, c.in_ok-candidates.ensures, c.in_ok-ends.ensures) (solved_by_plan c.args.task.now times c.args.ops c.args.cost _ c.requires.plan c.requires.time code)
