@@ -5,6 +5,7 @@ use lama_num::NoMemory;
 use std::alloc::Global;
 
 /// What a run of two entries is set to.
+#[derive(Clone, Copy)]
 struct Run {
     limit: Option<u64>,
     bound: Option<u64>,
@@ -13,7 +14,7 @@ struct Run {
 }
 
 /// What stands at the end of a run.
-#[derive(PartialEq)]
+#[derive(Clone, Copy, PartialEq)]
 struct End {
     over: bool,
     bound: Option<u64>,
