@@ -1,5 +1,6 @@
 use Rattle.std.proofs.Common.{◌∙◌, ap, ◌<◌, length, arith}
-use Rattle.plain_search.proofs.Growth.{grows_on, grows_length, taken_more, taken_within}
+use Rattle.plain_search.proofs.Growth.{grows_on, grows_length, taken_more}
+use Rattle.sas_task.specs.Laws.{taken-within}
 use Rattle.plain_search.proofs.breadth_first.expand.Goals as goal
 
 pub loop-op-preserved : goal.loop-op-preserved
@@ -17,6 +18,6 @@ loop-op-preserved c =
 
 pub returns-clause-expands : goal.returns-clause-expands
 returns-clause-expands c m there op next taken =
-    let within = taken_within c.args.task.now m.state op next taken in
+    let within = taken-within c.args.task.now m.state op next taken in
     let same = ap (λ p. length p.operators) c.parts.ensures.parts in
     c.loop-op.invariant.taken op m next (omega (arith, within, same)) there taken
