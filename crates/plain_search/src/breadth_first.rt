@@ -1,5 +1,6 @@
 // A plain search, breadth first: the oldest state first, its operators in ascending order.
-ghost use Rattle.std.specs.Prelude.{◌≡◌, ◌+◌, ◌^◌, ◌<◌, ◌≤◌, ◌++◌, [], ◌∷◌, ℕ, IsTrue, IfOk, OnOk, IsOk, length, slice_get, Some, List, false};
+ghost use Rattle.std.specs.Prelude.{◌≡◌, ◌+◌, ◌^◌, ◌<◌, ◌≤◌, ◌++◌, [], ◌∷◌, ℕ, IsTrue, IfOk, OnOk};
+ghost use Rattle.std.specs.Prelude.{IsOk, length, slice_get, Some, List, false};
 ghost use Rattle.std.specs.Str.{bytes_eq};
 ghost use Rattle.sas_task.specs.declared.contents.Parts.{Parts as TheParts};
 ghost use Rattle.sas_task.specs.WellFormed.{IsWellFormed};
@@ -7,7 +8,8 @@ ghost use Rattle.sas_task.specs.Runs.{start_of, is_goal};
 ghost use Rattle.state_step.specs.Stepper.{IsFor};
 ghost use Rattle.plain_search.specs.declared.space.Member.{Member as TheMember};
 ghost use Rattle.plain_search.specs.Spaces.{is_among};
-ghost use Rattle.plain_search.specs.Visits.{AreEarlier, IsVisited, LeadsOn, Grows, Visits, Expands, Finds};
+ghost use Rattle.plain_search.specs.Visits.{AreEarlier, IsVisited, LeadsOn, Grows, Visits, Expands};
+ghost use Rattle.plain_search.specs.Visits.{Finds};
 
 use crate::space::{Member, Space};
 use lama_num::{NoMemory, Seq};
@@ -60,9 +62,11 @@ fn is_known(members: &[Member], state: &[u32]) -> bool
 fn path_to(alloc: Global, visited: &Visited, state: u32) -> Result<Vec<u32>, NoMemory>
     requires state { state < length visited.now.origins }
     requires earlier { AreEarlier visited.now.origins }
-    ensures leads { (parts : TheParts) (first : TheMember) (last : TheMember) → IsVisited parts visited.now.members visited.now.origins →
-        slice_get visited.now.members 0 ≡ Some first → slice_get visited.now.members state ≡ Some last →
-        IfOk result (λ ops. LeadsOn parts first last ops.items) }
+    ensures leads { (parts : TheParts) (first : TheMember) (last : TheMember)
+        → IsVisited parts visited.now.members visited.now.origins
+        → slice_get visited.now.members 0 ≡ Some first
+        → slice_get visited.now.members state ≡ Some last
+        → IfOk result (λ ops. LeadsOn parts first last ops.items) }
     ensures few { IfOk result (λ ops. length ops.items ≤ state) }
 {
     let mut ops = Vec::new(alloc);
@@ -85,7 +89,8 @@ impl Visited {
         cost: u64,
         origin: Origin,
     ) -> Result<(), NoMemory>
-        ensures members { OnOk result (self.new.members ≡ self.old.members ++ record { state = state.now; cost = cost } ∷ []) }
+        ensures members { OnOk result (self.new.members
+            ≡ self.old.members ++ record { state = state.now; cost = cost } ∷ []) }
         ensures origins { OnOk result (self.new.origins ≡ self.old.origins ++ origin ∷ []) }
         ensures few { OnOk result (length self.new.members < 2 ^ 32) }
     {
@@ -103,9 +108,12 @@ impl Visited {
 fn plan_by(alloc: Global, visited: &Visited, parent: u32, op: u32) -> Result<Seq<u32>, NoMemory>
     requires parent { parent < length visited.now.origins }
     requires earlier { AreEarlier visited.now.origins }
-    ensures leads { (parts : TheParts) (first : TheMember) (last : TheMember) → IsVisited parts visited.now.members visited.now.origins →
-        slice_get visited.now.members 0 ≡ Some first → slice_get visited.now.members parent ≡ Some last →
-        IfOk result (λ ops. (before : List ℕ) × (ops ≡ before ++ op ∷ []) × LeadsOn parts first last before) }
+    ensures leads { (parts : TheParts) (first : TheMember) (last : TheMember)
+        → IsVisited parts visited.now.members visited.now.origins
+        → slice_get visited.now.members 0 ≡ Some first
+        → slice_get visited.now.members parent ≡ Some last
+        → IfOk result (λ ops. (before : List ℕ) × (ops ≡ before ++ op ∷ [])
+        × LeadsOn parts first last before) }
     ensures few { IfOk result (λ ops. length ops ≤ parent + 1) }
 {
     let mut ops = path_to(alloc, visited, parent)?;

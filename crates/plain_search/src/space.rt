@@ -1,5 +1,6 @@
 // The states that a search has found.
-ghost use Rattle.std.specs.Prelude.{◌≡◌, ◌<◌, ◌^◌, ◌↔◌, [], length, slice_get, IsTrue, IsSomeAnd, Some};
+ghost use Rattle.std.specs.Prelude.{◌≡◌, ◌<◌, ◌^◌, ◌↔◌, [], length, slice_get, IsTrue, IsSomeAnd};
+ghost use Rattle.std.specs.Prelude.{Some};
 
 use lama_num::Seq;
 use std::marker::Model;

@@ -192,3 +192,13 @@ keeps_new old now kept i f keeps long lt at new =
 
 pub distinct_again : (xs : List Fact) → distinct (distinct xs) ≡ distinct xs
 distinct_again xs = distinct-apart (distinct xs) (apart-distinct xs)
+
+-- what the test of a new fact tells
+
+pub was_new : (new known : Bool) → new ≡ not known → new ≡ true → known ≡ false
+was_new new true e is = let k : false ≡ true = sym e ∙ is in cc
+was_new new false e is = refl
+
+pub was_known : (new known : Bool) → new ≡ not known → new ≡ false → known ≡ true
+was_known new true e is = refl
+was_known new false e is = let k : true ≡ false = sym e ∙ is in cc

@@ -6,3 +6,4 @@ pub mod Forming
 pub mod InPlace
 pub mod Moving
 pub mod Permuting
+pub mod TableLaws

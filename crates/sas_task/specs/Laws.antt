@@ -360,7 +360,8 @@ end_of-append parts start ops op mid is = end_of-join parts start ops (op ∷ []
 pub end_of-first : (parts : Parts) (start mid : List ℕ) (op : ℕ) (ops : List ℕ) → step parts start op ≡ Some mid → end_of parts start (op ∷ ops) ≡ end_of parts mid ops
 end_of-first parts start mid op ops taken = rw taken refl
 
-taken-within : (parts : Parts) (state : List ℕ) (op : ℕ) (next : List ℕ) → step parts state op ≡ Some next → op < length parts.operators
+-- an operator that is taken is one of the task
+pub taken-within : (parts : Parts) (state : List ℕ) (op : ℕ) (next : List ℕ) → step parts state op ≡ Some next → op < length parts.operators
 taken-within parts state op next taken = let by = step-by parts state op next taken in slice_get_within parts.operators op by.operator by.at
 
 each-within : (n op : ℕ) (ops : List ℕ) → op < n → ((k : ℕ) → k < length ops → slice_index ops k < n) → (k : ℕ) → k < length (op ∷ ops) → slice_index (op ∷ ops) k < n

@@ -9,6 +9,7 @@ pub mod Order
 pub mod Refusals
 pub mod Runs
 pub mod States
+pub mod Tables
 pub mod Tests
 pub mod WellFormed
 pub mod Within

@@ -64,6 +64,18 @@ is_sound parts =
 abbrev pub is_good_rule : List Variable → List ℕ → Rule → Bool
 is_good_rule variables init rule = if is_default init rule.head then is_derived variables rule.head.var else is_layered_rule variables init rule
 
+abbrev pub wide_derived : List Variable → Option TaskError
+wide_derived variables = option_map (λ var. WideDerived var) (position is_wide variables)
+
+abbrev pub bad_fact : Parts → Option TaskError
+bad_fact parts = if is_sound parts then None else Some BadFact
+
+abbrev pub bad_cost : Parts → Option TaskError
+bad_cost parts = if not parts.metric && not (is_unit_cost parts) then Some BadCost else None
+
+abbrev pub bad_rule : Parts → Option TaskError
+bad_rule parts = option_map (λ rule. BadRule rule) (position (λ r. not (is_good_rule parts.variables parts.init r)) parts.rules)
+
 -- the first cause of a list that is there
 abbrev pub first_cause : List (Option TaskError) → Option TaskError
 first_cause [] = None
@@ -86,10 +98,10 @@ causes parts =
     ∷ too_large Rules most_rules (length parts.rules ∷ [])
     ∷ too_large Cost highest_cost (map (λ o. o.cost) parts.operators)
     ∷ too_large Name longest_name (name_lengths parts)
-    ∷ option_map (λ var. WideDerived var) (position is_wide parts.variables)
-    ∷ (if is_sound parts then None else Some BadFact)
-    ∷ (if not parts.metric && not (is_unit_cost parts) then Some BadCost else None)
-    ∷ option_map (λ rule. BadRule rule) (position (λ r. not (is_good_rule parts.variables parts.init r)) parts.rules)
+    ∷ wide_derived parts.variables
+    ∷ bad_fact parts
+    ∷ bad_cost parts
+    ∷ bad_rule parts
     ∷ []
 
 -- why parts are refused, if they are

@@ -1,10 +1,18 @@
 // The check of a task's parts.
-ghost use Rattle.std.specs.Prelude.{◌≡◌, ◌≤◌, ◌<◌, ◌&&◌, length, option_map, take, drop, filter, nat_lt, not, position, IfSome, None, Some, if◌then◌else◌};
+ghost use Rattle.std.specs.Prelude.{◌≡◌, ◌≤◌, ◌<◌, ◌&&◌, length, option_map, take, drop, filter};
+ghost use Rattle.std.specs.Prelude.{nat_lt, not, position, IfSome, None, Some, if◌then◌else◌};
 ghost use Rattle.std.specs.List.{list_all, zip};
 ghost use Rattle.sas_task.specs.Limits.{most_variables, most_rules, most_listed};
-ghost use Rattle.sas_task.specs.WellFormed.{is_fact as fact_test, starts, is_default as default_test};
+ghost use Rattle.sas_task.specs.WellFormed.{is_fact as fact_test, starts};
+ghost use Rattle.sas_task.specs.WellFormed.{is_default as default_test};
 ghost use Rattle.sas_task.specs.Costs.{is_unit_cost};
-ghost use Rattle.sas_task.specs.Refusals.{is_sound_effect as sound_effect, is_sound_operator as sound_operator, is_sound_rule as sound_rule, is_sound as sound, is_wide as wide, is_good_rule as good_rule, causes, first_cause, too_large, condition_counts, refusal_of, brought, unless};
+ghost use Rattle.sas_task.specs.Refusals.{wide_derived, bad_fact, bad_cost, bad_rule};
+ghost use Rattle.sas_task.specs.Refusals.{is_sound_effect as sound_effect};
+ghost use Rattle.sas_task.specs.Refusals.{is_sound_operator as sound_operator};
+ghost use Rattle.sas_task.specs.Refusals.{is_sound_rule as sound_rule, is_sound as sound};
+ghost use Rattle.sas_task.specs.Refusals.{is_wide as wide, is_good_rule as good_rule, causes};
+ghost use Rattle.sas_task.specs.Refusals.{first_cause, too_large, condition_counts, refusal_of};
+ghost use Rattle.sas_task.specs.Refusals.{brought, unless};
 ghost use Rattle.sas_task.specs.declared.refusals.What.TheVariants.{Conditions};
 
 use crate::conditions::{are_facts, is_derived, is_fact};
@@ -69,7 +77,7 @@ fn first_wide(variables: &[Variable]) -> Option<usize>
 
 fn refuse_wide(variables: &[Variable]) -> Result<(), TaskError>
     requires { length variables.now ≤ most_variables }
-    ensures { result ≡ unless (option_map (λ var. TaskError.WideDerived var) (position wide variables.now)) tt }
+    ensures { result ≡ unless (wide_derived variables.now) tt }
 {
     match first_wide(variables) {
         Some(var) => Err(TaskError::WideDerived { var: var as u32 }),
@@ -163,7 +171,7 @@ fn is_sound(parts: &Parts) -> bool
 }
 
 fn refuse_unsound(parts: &Parts) -> Result<(), TaskError>
-    ensures { result ≡ unless (if sound parts.now then None else Some TaskError.BadFact) tt }
+    ensures { result ≡ unless (bad_fact parts.now) tt }
 {
     if is_sound(parts) {
         Ok(())
@@ -175,7 +183,7 @@ fn refuse_unsound(parts: &Parts) -> Result<(), TaskError>
 // costs and rules
 
 fn refuse_costs(parts: &Parts) -> Result<(), TaskError>
-    ensures { result ≡ unless (if not parts.now.metric && not (is_unit_cost parts.now) then Some TaskError.BadCost else None) tt }
+    ensures { result ≡ unless (bad_cost parts.now) tt }
 {
     if parts.metric || each_costs_one(&parts.operators) {
         Ok(())
@@ -184,8 +192,8 @@ fn refuse_costs(parts: &Parts) -> Result<(), TaskError>
     }
 }
 
-/// Whether a rule's head is of a derived variable and, where it isn't a default, the conditions lie in
-/// its layer or below.
+/// Whether a rule's head is of a derived variable and, where it isn't a default, the conditions lie
+/// in its layer or below.
 pub fn is_good_rule(variables: &[Variable], init: &[u32], rule: &Rule) -> bool
     ensures { result ≡ good_rule variables.now init.now rule.now }
 {
@@ -207,7 +215,7 @@ fn first_bad_rule(variables: &[Variable], init: &[u32], rules: &[Rule]) -> Optio
 
 fn refuse_rules(parts: &Parts) -> Result<(), TaskError>
     requires { length parts.now.rules ≤ most_rules }
-    ensures { result ≡ unless (option_map (λ rule. TaskError.BadRule rule) (position (λ r. not (good_rule parts.now.variables parts.now.init r)) parts.now.rules)) tt }
+    ensures { result ≡ unless (bad_rule parts.now) tt }
 {
     match first_bad_rule(&parts.variables, &parts.init, &parts.rules) {
         Some(rule) => Err(TaskError::BadRule { rule: rule as u32 }),
@@ -233,8 +241,8 @@ fn refuse_others(parts: &Parts) -> Result<(), TaskError>
     refuse_rules(parts)
 }
 
-/// The task with parts that nothing refuses: what `check` makes of them, without its tests. It is for
-/// those who made the tests as the parts came, as the reader of texts.
+/// The task with parts that nothing refuses: what `check` makes of them, without its tests. It is
+/// for those who made the tests as the parts came, as the reader of texts.
 pub fn accepted(parts: Parts) -> Task
     requires { refusal_of parts ≡ None }
     ensures { result ≡ brought parts }
@@ -258,7 +266,8 @@ pub fn accepted(parts: Parts) -> Task
 /// Refuses a number of conditions that is above the limit.
 #[tactic(auto, using(crate::proofs::Above::above_append))]
 fn bring(parts: Parts) -> Result<Parts, TaskError>
-    ensures { result ≡ unless (too_large Conditions most_listed (condition_counts parts)) (brought parts) }
+    ensures { result
+        ≡ unless (too_large Conditions most_listed (condition_counts parts)) (brought parts) }
 {
     let mut operators = parts.operators.into_vec();
     let conditions = order_operators(&mut operators);
@@ -281,10 +290,10 @@ fn bring(parts: Parts) -> Result<Parts, TaskError>
 
 /// The task with these parts. Rules that give a variable its default are left out, and the
 /// preconditions of each operator are brought into the order of the canonical task text. Takes no
-/// memory, and drops the parts where it refuses them.
+/// memory that its answer would depend on, and drops the parts where it refuses them.
 ///
-/// Where an operator has many preconditions, the time that its order takes grows with their number
-/// times the number of preconditions and effects.
+/// Where an operator has many preconditions, they are ordered by tables, in time that grows with
+/// their number times its logarithm; with no memory for tables, with the square of their number.
 pub fn check(parts: Parts) -> Result<Task, TaskError>
     ensures { result ≡ unless (refusal_of parts) (brought parts) }
 {

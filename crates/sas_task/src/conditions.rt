@@ -1,7 +1,8 @@
 // Tests of facts.
 ghost use Rattle.std.specs.Prelude.{◌≡◌, ◌<◌, length, IsTrue};
 ghost use Rattle.std.specs.List.{list_all};
-ghost use Rattle.sas_task.specs.WellFormed.{layer_of as the_layer, is_derived as derived, is_fact as fact_test};
+ghost use Rattle.sas_task.specs.WellFormed.{layer_of as the_layer, is_derived as derived};
+ghost use Rattle.sas_task.specs.WellFormed.{is_fact as fact_test};
 ghost use Rattle.sas_task.specs.States.{holds as fact_holds, all_hold as facts_hold};
 ghost use Rattle.sas_task.specs.Within.{is_within};
 

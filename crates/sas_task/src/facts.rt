@@ -1,7 +1,9 @@
 // What value names and mutex groups say of facts.
-ghost use Rattle.std.specs.Prelude.{◌≡◌, ◌≤◌, ◌&&◌, Option, List, ℕ, option_map, position, length, nat_eq, IfSome};
+ghost use Rattle.std.specs.Prelude.{◌≡◌, ◌≤◌, ◌&&◌, Option, List, ℕ, option_map, position, length};
+ghost use Rattle.std.specs.Prelude.{nat_eq, IfSome};
 ghost use Rattle.std.specs.List.{list_any};
-ghost use Rattle.sas_task.specs.Facts.{value_name as the_value_name, atom_of as the_atom_of, before_arguments as the_front, has_fact};
+ghost use Rattle.sas_task.specs.Facts.{value_name as the_value_name, atom_of as the_atom_of};
+ghost use Rattle.sas_task.specs.Facts.{before_arguments as the_front, has_fact};
 
 use crate::contents::{Fact, Parts};
 use lama_num::Seq;

@@ -1,5 +1,5 @@
-//! Planning tasks in finite-domain variables: their parts, when they are well formed, and what their
-//! operators do.
+//! Planning tasks in finite-domain variables: their parts, when they are well formed, and what
+//! their operators do.
 //!
 //! `specs/` has the definitions that every other crate speaks of: well-formed parts, settled
 //! states, steps, runs, plans and their costs.
@@ -14,6 +14,7 @@ mod order;
 mod plans;
 mod refusals;
 mod rules;
+mod tables;
 mod task;
 
 pub use checking::{accepted, check, is_good_rule};

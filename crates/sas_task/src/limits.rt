@@ -1,7 +1,9 @@
 // The first of some quantities that is above its limit.
-ghost use Rattle.std.specs.Prelude.{◌≡◌, ◌≤◌, ◌<◌, ◌∷◌, ◌++◌, [], None, length, map, flat_map, filter_map, option_map};
+ghost use Rattle.std.specs.Prelude.{◌≡◌, ◌≤◌, ◌<◌, ◌∷◌, ◌++◌, [], None, length, map, flat_map};
+ghost use Rattle.std.specs.Prelude.{filter_map, option_map};
 ghost use Rattle.std.specs.Option.{option_or};
-ghost use Rattle.sas_task.specs.Limits.{most_variables, most_listed, highest_layer, highest_cost, longest_name};
+ghost use Rattle.sas_task.specs.Limits.{most_variables, most_listed, highest_layer, highest_cost};
+ghost use Rattle.sas_task.specs.Limits.{longest_name};
 ghost use Rattle.sas_task.specs.WellFormed.{fact_count as the_fact_count};
 ghost use Rattle.sas_task.specs.Refusals.{above as the_above, names_of, unless};
 
@@ -182,7 +184,8 @@ fn operator_names_above(operators: &[Operator]) -> Option<usize>
 /// The first length of a name that is above the limit.
 #[tactic(auto, using(crate::proofs::Above::above_append))]
 pub fn names_above(variables: &[Variable], operators: &[Operator]) -> Option<usize>
-    ensures { result ≡ the_above longest_name (flat_map names_of variables.now ++ map (λ o. length o.name) operators.now) }
+    ensures { result ≡ the_above longest_name
+        (flat_map names_of variables.now ++ map (λ o. length o.name) operators.now) }
 {
     first_of(
         variable_names_above(variables),

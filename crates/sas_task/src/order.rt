@@ -1,25 +1,27 @@
 // The order of an operator's preconditions.
-ghost use Rattle.std.specs.Prelude.{◌≡◌, ◌≤◌, ◌<◌, ◌+◌, ◌++◌, length, take, drop, map, flat_map, position, nat_eq, IfSome, None};
+ghost use Rattle.std.specs.Prelude.{◌≡◌, ◌≤◌, ◌<◌, ◌+◌, ◌++◌, length, take, drop, map, flat_map};
+ghost use Rattle.std.specs.Prelude.{position, nat_eq, IfSome, None};
 ghost use Rattle.sas_task.specs.Limits.{most_listed};
 ghost use Rattle.sas_task.specs.Order.{distinct, prevail, arranged, in_order, prevail_count};
 ghost use Rattle.sas_task.specs.Refusals.{above, conditions_of};
 
 use crate::contents::{Effect, Fact, Operator};
-use crate::facts::has;
 use crate::limits::{MOST_LISTED, effect_conditions_above};
+use crate::tables::{Arranged, by_tables, is_new, nothing_seen};
 use lama_num::Seq;
 use std::alloc::Global;
 use std::mem;
 
 /// Moves the facts to the front that didn't occur before, and says how many these are.
-fn keep_distinct(facts: &mut [Fact]) -> usize
+fn keep_distinct(alloc: Global, facts: &mut [Fact]) -> usize
     ensures front { take result facts.new ≡ distinct facts.old }
     ensures within { result ≤ length facts.old }
 {
     let mut kept = 0;
+    let mut seen = nothing_seen(alloc, facts.len());
     for i in 0..facts.len() {
         let fact = facts[i];
-        if !has(&facts[..kept], fact) {
+        if is_new(&mut seen, &facts[..kept], fact) {
             facts[kept] = fact;
             kept += 1;
         }
@@ -37,7 +39,9 @@ fn first_on(facts: &[Fact], var: u32) -> Option<usize>
 
 fn move_to_end(facts: &mut [Fact], place: usize)
     requires { place < length facts.old }
-    ensures { facts.new ≡ take place facts.old ++ (drop (place + 1) facts.old ++ take 1 (drop place facts.old)) }
+    ensures { facts.new
+        ≡ take place facts.old
+        ++ (drop (place + 1) facts.old ++ take 1 (drop place facts.old)) }
 {
     facts[place..].rotate_left(1);
 }
@@ -46,7 +50,7 @@ fn move_to_end(facts: &mut [Fact], place: usize)
 ///
 /// The prevail conditions among the first effects stand at the front; each effect moves the first
 /// of them on its variable to the end.
-fn arrange(pre: &mut [Fact], effects: &[Effect]) -> usize
+fn arrange_in_place(pre: &mut [Fact], effects: &[Effect]) -> usize
     requires { distinct pre.old ≡ pre.old }
     ensures order { pre.new ≡ arranged pre.old effects.now }
     ensures front { result ≡ length (prevail pre.old effects.now) }
@@ -61,10 +65,25 @@ fn arrange(pre: &mut [Fact], effects: &[Effect]) -> usize
     front
 }
 
-fn make_distinct(facts: &mut Vec<Fact>)
+/// The same, by tables where they are many.
+fn arrange(alloc: Global, pre: &mut Vec<Fact>, effects: &[Effect]) -> usize
+    requires { distinct pre.old.items ≡ pre.old.items }
+    ensures order { pre.new.items ≡ arranged pre.old.items effects.now }
+    ensures front { result ≡ length (prevail pre.old.items effects.now) }
+{
+    match by_tables(alloc, pre, effects) {
+        Some(Arranged { facts, prevail }) => {
+            *pre = facts;
+            prevail
+        }
+        None => arrange_in_place(pre, effects),
+    }
+}
+
+fn make_distinct(alloc: Global, facts: &mut Vec<Fact>)
     ensures { facts.new.items ≡ distinct facts.old.items }
 {
-    let kept = keep_distinct(facts);
+    let kept = keep_distinct(alloc, facts);
     facts.truncate(kept);
 }
 
@@ -75,8 +94,8 @@ fn order_preconditions(alloc: Global, operator: &mut Operator) -> usize
     ensures prevail { result ≡ prevail_count operator.old }
 {
     let mut pre = mem::replace(&mut operator.pre, Seq::new(alloc)).into_vec();
-    make_distinct(&mut pre);
-    let prevail = arrange(&mut pre, &operator.effects);
+    make_distinct(alloc, &mut pre);
+    let prevail = arrange(alloc, &mut pre, &operator.effects);
     operator.pre = Seq::from(pre);
     prevail
 }

@@ -46,8 +46,8 @@ pub enum TaskError {
     /// A cost isn't 1 in a task without a metric.
     #[error("refused")]
     BadCost,
-    /// A rule's head isn't of a derived variable, or a condition of the rule lies in a layer that is
-    /// too high. Rules are numbered from 0.
+    /// A rule's head isn't of a derived variable, or a condition of the rule lies in a layer that
+    /// is too high. Rules are numbered from 0.
     #[error("refused")]
     BadRule { rule: u32 },
 }

@@ -1,7 +1,9 @@
 // Tests of axiom rules.
 ghost use Rattle.std.specs.Prelude.{◌≡◌, ◌<◌, length};
 ghost use Rattle.std.specs.List.{list_all};
-ghost use Rattle.sas_task.specs.WellFormed.{is_default as default_test, is_layered_below as below_test, is_layered_rule as layered_test};
+ghost use Rattle.sas_task.specs.WellFormed.{is_default as default_test};
+ghost use Rattle.sas_task.specs.WellFormed.{is_layered_below as below_test};
+ghost use Rattle.sas_task.specs.WellFormed.{is_layered_rule as layered_test};
 
 use crate::conditions::layer_of;
 use crate::contents::{Fact, Rule, Variable};

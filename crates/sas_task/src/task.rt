@@ -1,10 +1,12 @@
 // The task type, and what it says of its operators and facts.
-ghost use Rattle.std.specs.Prelude.{◌≡◌, ◌≤◌, Option, List, ℕ, length, nat_eq, option_map, option_and_then};
+ghost use Rattle.std.specs.Prelude.{◌≡◌, ◌≤◌, Option, List, ℕ, length, nat_eq, option_map};
+ghost use Rattle.std.specs.Prelude.{option_and_then};
 ghost use Rattle.std.specs.List.{list_all};
 ghost use Rattle.sas_task.specs.Limits.{highest_cost};
 ghost use Rattle.sas_task.specs.WellFormed.{IsWellFormed};
 ghost use Rattle.sas_task.specs.Runs.{cost_at};
-ghost use Rattle.sas_task.specs.Costs.{is_unit_cost as unit_cost_test, adjusted_cost as the_adjusted_cost};
+ghost use Rattle.sas_task.specs.Costs.{is_unit_cost as unit_cost_test};
+ghost use Rattle.sas_task.specs.Costs.{adjusted_cost as the_adjusted_cost};
 ghost use Rattle.sas_task.specs.Facts.{predicate_of, are_mutex};
 
 use crate::contents::{CostKind, Fact, Operator, Parts};

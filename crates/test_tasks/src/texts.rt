@@ -564,7 +564,8 @@ end_goal
 "
 }
 
-/// A condition that is there twice, a conditional effect, two layers, and a goal fact that is there twice.
+/// A condition that is there twice, a conditional effect, two layers, and a goal fact that is there
+/// twice.
 pub fn two_conditions() -> &'static str {
     "begin_version
 3

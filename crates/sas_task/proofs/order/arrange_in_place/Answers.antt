@@ -1,7 +1,7 @@
 use Rattle.std.proofs.Common.{sym, ◌∙◌}
 use Rattle.sas_task.proofs.Moving.{arranges_none, arranges_stay, arranges_move}
-use Rattle.sas_task.proofs.order.arrange.Goals as goal
-use Rattle.sas_task.proofs.order.arrange.Goals.{in-Some, in_default}
+use Rattle.sas_task.proofs.order.arrange_in_place.Goals as goal
+use Rattle.sas_task.proofs.order.arrange_in_place.Goals.{in-Some, in_default}
 
 pub loop-effect-init : goal.loop-effect-init
 loop-effect-init c = arranges_none c.args.pre.now
