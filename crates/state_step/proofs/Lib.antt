@@ -1,1 +1,3 @@
+pub mod Looking
 pub mod RunLaws
+pub mod TableLaws

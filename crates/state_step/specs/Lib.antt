@@ -1,3 +1,4 @@
 pub mod RunEnds
 pub mod Stepper
 pub mod Steps
+pub mod Tables

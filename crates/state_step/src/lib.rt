@@ -7,6 +7,7 @@
 mod effects;
 mod runs;
 mod stepper;
+mod tables;
 
 pub use runs::RunEnd;
 pub use stepper::Stepper;

@@ -6,8 +6,9 @@ ghost use Rattle.state_step.specs.Stepper.{IsFor};
 ghost use Rattle.state_step.specs.Steps.{is_applicable};
 ghost use Rattle.state_step.specs.RunEnds.{Ends};
 
-use crate::effects::write_effects;
+use crate::effects::write_changes;
 use crate::runs::RunEnd;
+use crate::tables::{Operators, tables_of};
 use axiom_eval::{Axioms, all_hold};
 use lama_num::NoMemory;
 use sas_task::Task;
@@ -22,14 +23,15 @@ use std::mem::swap;
 #[derive(Debug, Drop)]
 pub struct Stepper {
     axioms: Axioms,
+    operators: Operators,
 }
 
 impl Model for Stepper {
-    ghost use Rattle.axiom_eval.specs.Axioms.{Tables};
+    ghost use Rattle.state_step.specs.Stepper.{Steps};
 
-    ghost Value = { Tables };
+    ghost Value = { Steps };
 
-    ghost view = { λ s. s.axioms };
+    ghost view = { λ s. record { axioms = s.axioms; operators = s.operators } };
 }
 
 impl Stepper {
@@ -38,7 +40,8 @@ impl Stepper {
         ensures { IfOk result (λ stepper. IsFor stepper task.now) }
     {
         let axioms = Axioms::new(alloc, task)?;
-        Ok(Stepper { axioms })
+        let operators = tables_of(alloc, &task.parts().operators)?;
+        Ok(Stepper { axioms, operators })
     }
 
     /// Makes the initial state.
@@ -59,8 +62,7 @@ impl Stepper {
         requires op { op < length task.now.operators }
         ensures { result ≡ is_applicable task.now state.now op }
     {
-        let operator = &task.parts().operators[op as usize];
-        all_hold(state, &operator.pre)
+        all_hold(state, self.operators.pre.row(op as usize))
     }
 
     /// Makes the state after an operator that can be applied.
@@ -72,8 +74,8 @@ impl Stepper {
         ensures state { step task.now state.now op ≡ Some out.new }
         ensures same_task { IsFor self.new task.now }
     {
-        let operator = &task.parts().operators[op as usize];
-        write_effects(state, &operator.effects, out);
+        let changes = self.operators.changes.row(op as usize);
+        write_changes(state, &self.operators.conds, changes, out);
         self.axioms.settle(task, out);
     }
 

@@ -1,9 +1,21 @@
-use Rattle.std.proofs.Common.{◌≡◌, Some}
-use Rattle.std.proofs.Common.{slice_get}
-use Rattle.state_step.proofs.RunLaws.{effects_within}
+use Rattle.std.proofs.Common.{◌<◌, length, subst, sym}
+use Rattle.state_step.specs.Stepper.{Steps}
+use Rattle.state_step.specs.Steps.{applicable-within}
+use Rattle.state_step.specs.Tables.{AreEffects}
+use Rattle.state_step.proofs.Looking.{changes_within, changes_step}
 use Rattle.state_step.proofs.stepper.Stepper.apply_into.Goals as goal
 
-pub write_effects-requires-clause-facts : goal.write_effects-requires-clause-facts
-write_effects-requires-clause-facts c =
-    let at : slice_get c.args.task.now.operators c.args.op ≡ Some c.index-operator.result.now = rw c.parts.ensures.parts at c.index-operator.ensures in
-    rw c.deref.ensures (effects_within c.args.task.now _ c.args.op c.index-operator.result.now c.parts.ensures.well_formed c.requires.long at)
+pub write_changes-requires-clause-facts : goal.write_changes-requires-clause-facts
+write_changes-requires-clause-facts c =
+    let op : c.args.op < length c.args.task.now.operators = applicable-within c.args.task.now c.args.state.now c.args.op c.requires.applicable in
+    let are : AreEffects c.args.task.now.operators c.self.inside.operators.changes c.self.inside.operators.conds =
+    subst (λ (s : Steps). AreEffects c.args.task.now.operators s.operators.changes s.operators.conds) (sym c.self.view_is) c.requires.same_task.operators.effects in
+    rw c.row-changes.ensures (changes_within c.args.task.now _ _ _ c.args.op c.requires.same_task.well_formed c.requires.long are op)
+
+pub returns-clause-state : goal.returns-clause-state
+returns-clause-state c =
+    let op : c.args.op < length c.args.task.now.operators = applicable-within c.args.task.now c.args.state.now c.args.op c.requires.applicable in
+    let are : AreEffects c.args.task.now.operators c.self.inside.operators.changes c.self.inside.operators.conds =
+    subst (λ (s : Steps). AreEffects c.args.task.now.operators s.operators.changes s.operators.conds) (sym c.self.view_is) c.requires.same_task.operators.effects in
+    let wrote = rw c.row-changes.ensures at c.write_changes.ensures in
+    changes_step c.args.task.now c.args.state.now _ _ _ _ c.args.op are op c.requires.applicable wrote c.settle.ensures.values
