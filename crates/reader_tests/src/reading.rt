@@ -2,18 +2,80 @@
 use sas_reader::{SasError, SasFault, Want, read};
 use sas_task::{Fact, Operator, Parts, Variable, What};
 use std::alloc::{AllocError, Global};
-use std::process::Abort;
 use std::test::Fail;
 use test_tasks::three_places;
 
 /// A switch, and two derived variables in two layers. The last rule gives a default.
 fn two_layers() -> &'static [u8] {
-    b"begin_version\n3\nend_version\nbegin_metric\n0\nend_metric\n3\nbegin_variable\nx\n-1\n2\nAtom x(0)\nAtom x(1)\nend_variable\nbegin_variable\nd\n0\n2\nAtom d(0)\nAtom d(1)\nend_variable\nbegin_variable\ne\n1\n2\nAtom e(0)\nAtom e(1)\nend_variable\n1\nbegin_mutex_group\n2\n0 0\n1 1\nend_mutex_group\nbegin_state\n0\n0\n0\nend_state\nbegin_goal\n1\n2 0\nend_goal\n1\nbegin_operator\nflip\n0\n1\n1 1 0 0 0 1\n7\nend_operator\n3\nbegin_rule\n1\n0 1\n1 0 1\nend_rule\nbegin_rule\n1\n1 0\n2 0 1\nend_rule\nbegin_rule\n1\n0 0\n1 1 0\nend_rule\n"
-}
-
-/// The same without the last rule.
-fn two_rules() -> &'static [u8] {
-    b"begin_version\n3\nend_version\nbegin_metric\n0\nend_metric\n3\nbegin_variable\nx\n-1\n2\nAtom x(0)\nAtom x(1)\nend_variable\nbegin_variable\nd\n0\n2\nAtom d(0)\nAtom d(1)\nend_variable\nbegin_variable\ne\n1\n2\nAtom e(0)\nAtom e(1)\nend_variable\n1\nbegin_mutex_group\n2\n0 0\n1 1\nend_mutex_group\nbegin_state\n0\n0\n0\nend_state\nbegin_goal\n1\n2 0\nend_goal\n1\nbegin_operator\nflip\n0\n1\n1 1 0 0 0 1\n7\nend_operator\n2\nbegin_rule\n1\n0 1\n1 0 1\nend_rule\nbegin_rule\n1\n1 0\n2 0 1\nend_rule\n"
+    "begin_version
+3
+end_version
+begin_metric
+0
+end_metric
+3
+begin_variable
+x
+-1
+2
+Atom x(0)
+Atom x(1)
+end_variable
+begin_variable
+d
+0
+2
+Atom d(0)
+Atom d(1)
+end_variable
+begin_variable
+e
+1
+2
+Atom e(0)
+Atom e(1)
+end_variable
+1
+begin_mutex_group
+2
+0 0
+1 1
+end_mutex_group
+begin_state
+0
+0
+0
+end_state
+begin_goal
+1
+2 0
+end_goal
+1
+begin_operator
+flip
+0
+1
+1 1 0 0 0 1
+7
+end_operator
+3
+begin_rule
+1
+0 1
+1 0 1
+end_rule
+begin_rule
+1
+1 0
+2 0 1
+end_rule
+begin_rule
+1
+0 0
+1 1 0
+end_rule
+"
+        .as_bytes()
 }
 
 /// The text with another line, numbered from 1, in the place of one of its own.
@@ -205,10 +267,6 @@ fn other_forms_are_the_same(rt: HostRuntime) -> Result<(), Fail> {
         !is_same(alloc, text, &with_line(alloc, text, 44, b"6")?)?,
         "another cost"
     );
-    assert!(rt;
-        is_same(alloc, two_layers(), two_rules())?,
-        "a rule that gives a default"
-    );
     Ok(())
 }
 
@@ -257,154 +315,265 @@ fn two_layers_are_read(rt: HostRuntime) -> Result<(), Fail> {
     Ok(())
 }
 
-fn bad_word(line: u64) -> SasFault {
-    SasFault::BadLine {
-        line,
-        want: Want::Word,
-    }
-}
+/// A line of a text, by its number from 1, another line in its place, and the fault of that.
+type Row = (u32, &'static [u8], SasFault);
 
-fn too_large(what: What, count: u64) -> SasFault {
-    SasFault::TooLarge { what, count }
-}
-
-fn expect_faults(
-    rt: &impl Abort,
-    alloc: Global,
-    text: &[u8],
-    rows: &[(u32, &[u8], SasFault)],
-) -> Result<(), AllocError> {
+/// The number of the first line that doesn't give its fault.
+fn first_wrong(alloc: Global, text: &[u8], rows: &[Row]) -> Result<Option<u32>, AllocError> {
     for (number, line, want) in rows {
         let found = fault(alloc, &with_line(alloc, text, *number, line)?);
-        assert_eq!(rt; found, Some(*want), "line {number}");
+        if found != Some(*want) {
+            return Ok(Some(*number));
+        }
     }
+    Ok(None)
+}
+
+/// Other lines in the three places.
+static PLACES: [Row; 30] = [
+    (
+        1,
+        b"begin_versio",
+        SasFault::BadLine {
+            line: 1,
+            want: Want::Word,
+        },
+    ),
+    (
+        45,
+        b"end_operator x",
+        SasFault::BadLine {
+            line: 45,
+            want: Want::Word,
+        },
+    ),
+    (
+        2,
+        b"4",
+        SasFault::BadLine {
+            line: 2,
+            want: Want::Version,
+        },
+    ),
+    (
+        5,
+        b"2",
+        SasFault::BadLine {
+            line: 5,
+            want: Want::Metric,
+        },
+    ),
+    (
+        9,
+        b"",
+        SasFault::BadLine {
+            line: 9,
+            want: Want::Name,
+        },
+    ),
+    (
+        40,
+        b" \t",
+        SasFault::BadLine {
+            line: 40,
+            want: Want::Name,
+        },
+    ),
+    (7, b"", SasFault::BadNumber { line: 7 }),
+    (7, b"-1", SasFault::BadNumber { line: 7 }),
+    (11, b"0", SasFault::BadNumber { line: 11 }),
+    (22, b"0 2 0", SasFault::BadNumber { line: 22 }),
+    (29, b"0 0 0 -1", SasFault::BadNumber { line: 29 }),
+    (29, b"0 0 0", SasFault::BadNumber { line: 29 }),
+    (
+        30,
+        b"18446744073709551616",
+        SasFault::BadNumber { line: 30 },
+    ),
+    (46, b"0 0", SasFault::BadNumber { line: 46 }),
+    (18, b"3", SasFault::BadFact { line: 18 }),
+    (22, b"1 0", SasFault::BadFact { line: 22 }),
+    (29, b"0 1099511627776 0 1", SasFault::BadFact { line: 29 }),
+    (43, b"0 0 3 0", SasFault::BadFact { line: 43 }),
+    (
+        7,
+        b"1048577",
+        SasFault::TooLarge {
+            what: What::Variables,
+            count: 1048577,
+        },
+    ),
+    (
+        11,
+        b"1048577",
+        SasFault::TooLarge {
+            what: What::Range,
+            count: 1048577,
+        },
+    ),
+    (
+        16,
+        b"1048577",
+        SasFault::TooLarge {
+            what: What::Groups,
+            count: 1048577,
+        },
+    ),
+    (
+        21,
+        b"1048577",
+        SasFault::TooLarge {
+            what: What::Goals,
+            count: 1048577,
+        },
+    ),
+    (
+        24,
+        b"4194305",
+        SasFault::TooLarge {
+            what: What::Operators,
+            count: 4194305,
+        },
+    ),
+    (
+        27,
+        b"1048577",
+        SasFault::TooLarge {
+            what: What::Conditions,
+            count: 1048577,
+        },
+    ),
+    (
+        28,
+        b"1048577",
+        SasFault::TooLarge {
+            what: What::Effects,
+            count: 1048577,
+        },
+    ),
+    (
+        30,
+        b"2147483648",
+        SasFault::TooLarge {
+            what: What::Cost,
+            count: 2147483648,
+        },
+    ),
+    (
+        46,
+        b"18446744073709551615",
+        SasFault::TooLarge {
+            what: What::Rules,
+            count: 18446744073709551615,
+        },
+    ),
+    (46, b"0\n\nx", SasFault::Trailing { line: 48 }),
+    (46, b"1", SasFault::CutShort { line: 47 }),
+    (
+        5,
+        b"2\n4",
+        SasFault::BadLine {
+            line: 5,
+            want: Want::Metric,
+        },
+    ),
+];
+
+/// Other lines in the two layers.
+static LAYERS: [Row; 21] = [
+    (10, b"x", SasFault::BadNumber { line: 10 }),
+    (
+        17,
+        b"1048577",
+        SasFault::TooLarge {
+            what: What::Layer,
+            count: 1048577,
+        },
+    ),
+    (18, b"3", SasFault::WideDerived { var: 1 }),
+    (25, b"1", SasFault::WideDerived { var: 2 }),
+    (
+        31,
+        b"1048577",
+        SasFault::TooLarge {
+            what: What::GroupFacts,
+            count: 1048577,
+        },
+    ),
+    (32, b"0 2", SasFault::BadFact { line: 32 }),
+    (38, b"2", SasFault::BadFact { line: 38 }),
+    (49, b"0 1 0 1", SasFault::BadFact { line: 49 }),
+    (49, b"1 1 2 0 0 1", SasFault::BadFact { line: 49 }),
+    (49, b"1 1 0 0 -1 1 0", SasFault::BadNumber { line: 49 }),
+    (49, b"1 1 -1 0 0 1", SasFault::BadNumber { line: 49 }),
+    (
+        54,
+        b"1048577",
+        SasFault::TooLarge {
+            what: What::Conditions,
+            count: 1048577,
+        },
+    ),
+    (55, b"2 1", SasFault::BadRule { line: 56 }),
+    (56, b"0 0 1", SasFault::BadRule { line: 56 }),
+    (56, b"1 2 1", SasFault::BadFact { line: 56 }),
+    (60, b"2 0", SasFault::BadRule { line: 61 }),
+    (
+        64,
+        b"1048577",
+        SasFault::TooLarge {
+            what: What::Conditions,
+            count: 1048577,
+        },
+    ),
+    (66, b"1 1 2", SasFault::BadFact { line: 66 }),
+    (66, b"0 1 0", SasFault::BadRule { line: 66 }),
+    (66, b"1 -1 0", SasFault::BadNumber { line: 66 }),
+    (
+        67,
+        b"end",
+        SasFault::BadLine {
+            line: 67,
+            want: Want::Word,
+        },
+    ),
+];
+
+#[test]
+fn faults_are_told(rt: HostRuntime) -> Result<(), Fail> {
+    let alloc = rt.alloc();
+    let places = first_wrong(alloc, three_places().as_bytes(), &PLACES)?;
+    assert!(rt; places.is_none(), "places: {places:?}");
+    let layers = first_wrong(alloc, two_layers(), &LAYERS)?;
+    assert!(rt; layers.is_none(), "layers: {layers:?}");
     Ok(())
 }
 
-#[test]
-fn faults_of_places_are_told(rt: HostRuntime) -> Result<(), Fail> {
-    let rows: [(u32, &[u8], SasFault); 30] = [
-        (1, b"begin_versio", bad_word(1)),
-        (45, b"end_operator x", bad_word(45)),
-        (
-            2,
-            b"4",
-            SasFault::BadLine {
-                line: 2,
-                want: Want::Version,
-            },
-        ),
-        (
-            5,
-            b"2",
-            SasFault::BadLine {
-                line: 5,
-                want: Want::Metric,
-            },
-        ),
-        (
-            9,
-            b"",
-            SasFault::BadLine {
-                line: 9,
-                want: Want::Name,
-            },
-        ),
-        (
-            40,
-            b" \t",
-            SasFault::BadLine {
-                line: 40,
-                want: Want::Name,
-            },
-        ),
-        (7, b"", SasFault::BadNumber { line: 7 }),
-        (7, b"-1", SasFault::BadNumber { line: 7 }),
-        (11, b"0", SasFault::BadNumber { line: 11 }),
-        (22, b"0 2 0", SasFault::BadNumber { line: 22 }),
-        (29, b"0 0 0 -1", SasFault::BadNumber { line: 29 }),
-        (29, b"0 0 0", SasFault::BadNumber { line: 29 }),
-        (
-            30,
-            b"18446744073709551616",
-            SasFault::BadNumber { line: 30 },
-        ),
-        (46, b"0 0", SasFault::BadNumber { line: 46 }),
-        (18, b"3", SasFault::BadFact { line: 18 }),
-        (22, b"1 0", SasFault::BadFact { line: 22 }),
-        (29, b"0 1099511627776 0 1", SasFault::BadFact { line: 29 }),
-        (43, b"0 0 3 0", SasFault::BadFact { line: 43 }),
-        (7, b"1048577", too_large(What::Variables, 1048577)),
-        (11, b"1048577", too_large(What::Range, 1048577)),
-        (16, b"1048577", too_large(What::Groups, 1048577)),
-        (21, b"1048577", too_large(What::Goals, 1048577)),
-        (24, b"4194305", too_large(What::Operators, 4194305)),
-        (27, b"1048577", too_large(What::Conditions, 1048577)),
-        (28, b"1048577", too_large(What::Effects, 1048577)),
-        (30, b"2147483648", too_large(What::Cost, 2147483648)),
-        (
-            46,
-            b"18446744073709551615",
-            too_large(What::Rules, 18446744073709551615),
-        ),
-        (46, b"0\n\nx", SasFault::Trailing { line: 48 }),
-        (46, b"1", SasFault::CutShort { line: 47 }),
-        (
-            5,
-            b"2\n4",
-            SasFault::BadLine {
-                line: 5,
-                want: Want::Metric,
-            },
-        ),
-    ];
-    expect_faults(&rt, rt.alloc(), three_places().as_bytes(), &rows)?;
-    Ok(())
+/// Whether the first lines of a text are cut short at the next.
+fn is_cut_short(alloc: Global, text: &[u8], count: u32) -> Result<bool, AllocError> {
+    let line = u64::from(count) + 1;
+    Ok(fault(alloc, &front(alloc, text, count)?) == Some(SasFault::CutShort { line }))
+}
+
+/// What becomes of the three places with a name of so many letters.
+fn named(alloc: Global, count: usize) -> Result<Option<SasFault>, AllocError> {
+    let name = letters(alloc, count)?;
+    Ok(fault(
+        alloc,
+        &with_line(alloc, three_places().as_bytes(), 9, &name)?,
+    ))
 }
 
 #[test]
-fn faults_of_layers_are_told(rt: HostRuntime) -> Result<(), Fail> {
-    let rows: [(u32, &[u8], SasFault); 21] = [
-        (10, b"x", SasFault::BadNumber { line: 10 }),
-        (17, b"1048577", too_large(What::Layer, 1048577)),
-        (18, b"3", SasFault::WideDerived { var: 1 }),
-        (25, b"1", SasFault::WideDerived { var: 2 }),
-        (31, b"1048577", too_large(What::GroupFacts, 1048577)),
-        (32, b"0 2", SasFault::BadFact { line: 32 }),
-        (38, b"2", SasFault::BadFact { line: 38 }),
-        (49, b"0 1 0 1", SasFault::BadFact { line: 49 }),
-        (49, b"1 1 2 0 0 1", SasFault::BadFact { line: 49 }),
-        (49, b"1 1 0 0 -1 1 0", SasFault::BadNumber { line: 49 }),
-        (49, b"1 1 -1 0 0 1", SasFault::BadNumber { line: 49 }),
-        (54, b"1048577", too_large(What::Conditions, 1048577)),
-        (55, b"2 1", SasFault::BadRule { line: 56 }),
-        (56, b"0 0 1", SasFault::BadRule { line: 56 }),
-        (56, b"1 2 1", SasFault::BadFact { line: 56 }),
-        (60, b"2 0", SasFault::BadRule { line: 61 }),
-        (64, b"1048577", too_large(What::Conditions, 1048577)),
-        (66, b"1 1 2", SasFault::BadFact { line: 66 }),
-        (66, b"0 1 0", SasFault::BadRule { line: 66 }),
-        (66, b"1 -1 0", SasFault::BadNumber { line: 66 }),
-        (67, b"end", bad_word(67)),
-    ];
-    expect_faults(&rt, rt.alloc(), two_layers(), &rows)?;
-    Ok(())
-}
-
-#[test]
-fn texts_that_end_too_soon(rt: HostRuntime) -> Result<(), Fail> {
+fn ends_and_names_are_tested(rt: HostRuntime) -> Result<(), Fail> {
     let alloc = rt.alloc();
     let text = three_places().as_bytes();
-    for count in [0, 20, 45] {
-        let line = u64::from(count) + 1;
-        let found = fault(alloc, &front(alloc, text, count)?);
-        assert_eq!(rt; found, Some(SasFault::CutShort { line }));
-    }
-    let found = fault(alloc, &followed(alloc, text, b"x")?);
-    assert_eq!(rt; found, Some(SasFault::Trailing { line: 47 }));
-    let long = with_line(alloc, text, 9, &letters(alloc, 4097)?)?;
-    assert_eq!(rt; fault(alloc, &long), Some(too_large(What::Name, 4097)));
-    let name = with_line(alloc, text, 9, &letters(alloc, 4096)?)?;
-    assert_eq!(rt; fault(alloc, &name), None);
+    assert!(rt; is_cut_short(alloc, text, 0)?, "no line");
+    assert!(rt; is_cut_short(alloc, text, 45)?, "45 lines");
+    let longer = fault(alloc, &followed(alloc, text, b"x")?);
+    assert!(rt; longer == Some(SasFault::Trailing { line: 47 }));
+    let (what, count) = (What::Name, 4097);
+    assert!(rt; named(alloc, 4097)? == Some(SasFault::TooLarge { what, count }));
+    assert!(rt; named(alloc, 4096)?.is_none());
     Ok(())
 }

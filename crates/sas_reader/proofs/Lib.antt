@@ -1,8 +1,9 @@
-pub mod Accepting
-pub mod Firsts
-pub mod Gathering
 pub mod GivenLines
-pub mod Inverting
+pub mod Known
+pub mod Only
+pub mod Pairs
 pub mod Parts
 pub mod Prevailing
+pub mod Readings
+pub mod Sound
 pub mod Walking

@@ -22,10 +22,10 @@ bind_same (Ok x) f g e = e x
 bind_same (Err x) f g e = refl
 
 -- what follows a format starts where it ends
-pub walk_bind : {A B : Type 0} (format : Format A) (more : A → Format B) (place : Place) → walk (formats.◌>>=◌ format more) place ≡ (walk format place >>= λ r. walk (more r.0) r.1)
-walk_bind (Done x) more place = refl
-walk_bind (Line kind onward) more place =
-    bind_same (next kind place) _ _ (λ r. walk_bind (onward r.0) more r.1) ∙ sym (bind_bind (next kind place) _ _)
+pub walk_on : {A B : Type 0} (format : Format A) (more : A → Format B) (place : Place) → walk (formats.◌>>=◌ format more) place ≡ (walk format place >>= λ r. walk (more r.0) r.1)
+walk_on (Done x) more place = refl
+walk_on (Line kind onward) more place =
+    bind_same (next kind place) _ _ (λ r. walk_on (onward r.0) more r.1) ∙ sym (bind_bind (next kind place) _ _)
 
 -- a list in front of what a walk gives
 abbrev pub behind : {A : Type 0} → List A → Walked (List A) → Walked (List A)
@@ -40,7 +40,7 @@ behind_cons front x (Err e) = refl
 pub times_suc : {A : Type 0} (format : Format A) (n : ℕ) (place : Place) →
     walk (times (suc n) format) place ≡ (walk format place >>= λ x. walk (times n format) x.1 >>= λ xs. Ok (x.0 ∷ xs.0, xs.1))
 unfolding times
-times_suc format n place = walk_bind format _ place ∙ bind_same (walk format place) _ _ (λ x. walk_bind (times n format) _ x.1)
+times_suc format n place = walk_on format _ place ∙ bind_same (walk format place) _ _ (λ x. walk_on (times n format) _ x.1)
 
 -- a loop that reads so many, from one turn to the next
 pub loop_more : {A : Type 0} (format : Format A) (front : List A) (n i : ℕ) (place rest : Place) (x : A) → i < n → walk format place ≡ Ok (x, rest) →
@@ -59,6 +59,8 @@ pub loop_fail : {A : Type 0} (format : Format A) (front : List A) (n i : ℕ) (p
     behind front (walk (times (n - i) format) place) ≡ Err fault
 loop_fail format front n i place fault lt is = let one : n - i ≡ suc (n - (i + 1)) = omega arith in rw (one, times_suc format (n - (i + 1)) place, is) refl
 
+pub ruleset loops = (loop_more, loop_none, loop_fail)
+
 -- the same of lines of a kind
 pub lines_fail : (kind : Kind) (front : List (Value kind)) (n i : ℕ) (place : Place) (e : SasError) → i < n → Fails (fault_of e) (next kind place) →
     Fails (fault_of e) (behind front (walk (times (n - i) (line kind)) place))
@@ -69,7 +71,7 @@ lines_fail kind front n i place NoMemory lt is = tt
 pub each_suc : {X A : Type 0} (format : X → Format A) (x : X) (xs : List X) (place : Place) →
     walk (each format (x ∷ xs)) place ≡ (walk (format x) place >>= λ y. walk (each format xs) y.1 >>= λ ys. Ok (y.0 ∷ ys.0, ys.1))
 unfolding each
-each_suc format x xs place = walk_bind (format x) _ place ∙ bind_same (walk (format x) place) _ _ (λ y. walk_bind (each format xs) _ y.1)
+each_suc format x xs place = walk_on (format x) _ place ∙ bind_same (walk (format x) place) _ _ (λ y. walk_on (each format xs) _ y.1)
 
 -- a loop that reads once for each of a row, from one turn to the next
 pub row_more : {X A : Type 0} (format : X → Format A) (front : List A) (xs : List X) (i : ℕ) (x : X) (place rest : Place) (y : A) → i < length xs → walk (format (get_or xs i x)) place ≡ Ok (y, rest) →

@@ -2,6 +2,7 @@
 use Rattle.std.specs.Prelude.{◌≡◌, ℕ, ◌+◌, ◌<◌, ◌≤◌, List, [], ◌∷◌, ◌++◌, length, nat_eq, if◌then◌else◌, Option, Some, None, option_and_then, Result, Ok, Err, ◌⊎◌}
 use Rattle.std.specs.Result.{result_ok}
 use Rattle.text_lines.specs.Lines.{lines_of}
+use Rattle.sas_reader.specs.Reading.{most_bytes}
 use Rattle.sas_reader.specs.Formats.{Format, Done, Line, Kind, Value, value_of}
 use Rattle.sas_reader.specs.TaskText.{task as the_task}
 use Rattle.sas_task.specs.Refusals.{brought}
@@ -36,7 +37,7 @@ pub record Faults {A : Type 0} (format : Format A) (n : ℕ) (lines : List (List
 -- The bytes are within the limit, and each line is what the lines before it want. The task is what they give, with
 -- rules of defaults left out and preconditions in order.
 pub record IsTextOf (bytes : List ℕ) (task : Parts) : Type 0 where
-  pub within : length bytes ≤ 268435456
+  pub within : length bytes ≤ most_bytes
   pub given : Parts
   pub lines : after the_task 1 (lines_of bytes) ≡ Some (Done given)
   pub brought : task ≡ brought given
@@ -44,5 +45,16 @@ pub record IsTextOf (bytes : List ℕ) (task : Parts) : Type 0 where
 -- the first fault of bytes
 abbrev pub IsFirstFaultOf : List ℕ → SasFault → Type 0
 IsFirstFaultOf bytes fault =
-    ((268435456 < length bytes) × (fault ≡ TooLarge Bytes (length bytes)))
-    ⊎ ((length bytes ≤ 268435456) × Faults the_task 1 (lines_of bytes) fault)
+    ((most_bytes < length bytes) × (fault ≡ TooLarge Bytes (length bytes)))
+    ⊎ ((length bytes ≤ most_bytes) × Faults the_task 1 (lines_of bytes) fault)
+
+-- what bytes are: the text of a task, or faulty with a first fault
+abbrev pub Reads : List ℕ → Result Parts SasFault → Type 0
+Reads bytes (Ok task) = IsTextOf bytes task
+Reads bytes (Err fault) = IsFirstFaultOf bytes fault
+
+-- it holds of one, and of no other
+pub record ExactlyOne {A : Type 0} (P : A → Type 0) : Type 0 where
+  pub one : A
+  pub holds : P one
+  pub only : (x : A) → P x → x ≡ one

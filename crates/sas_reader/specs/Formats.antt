@@ -3,7 +3,8 @@ use Rattle.std.specs.Prelude.{◌≡◌, ℕ, zero, suc, List, [], ◌∷◌, Bo
 use Rattle.sas_reader.specs.Reading.{begin_line, end_line, version_line, metric_line, name_line, count_line, layer_line, range_line, value_line, fact_line, effect_line, head_line}
 use Rattle.sas_task.specs.declared.contents.Fact.{Fact}
 use Rattle.sas_task.specs.declared.contents.Effect.{Effect}
-use Rattle.sas_reader.specs.declared.shapes.Shape.{Shape}
+use Rattle.sas_task.specs.declared.contents.Rule.{Rule}
+use Rattle.sas_task.specs.declared.contents.Variable.{Variable}
 use Rattle.sas_reader.specs.declared.faults.SasFault.{SasFault}
 use Rattle.sas_reader.specs.declared.sections.Section.{Section}
 use Rattle.sas_task.specs.declared.refusals.What.{What}
@@ -23,10 +24,10 @@ pub data Kind : Type 0 where
   Range : ℕ → Option ℕ → ℕ → Kind
   -- a value below a range
   Below : ℕ → Kind
-  FactIn : List Shape → Kind
-  EffectIn : List Shape → Kind
-  -- the head of a rule with those defaults and conditions
-  HeadIn : List Shape → List ℕ → List Fact → Kind
+  FactIn : List Variable → Kind
+  EffectIn : List Variable → Kind
+  -- the head of a rule with those conditions, behind those initial values
+  HeadIn : List Variable → List ℕ → List Fact → Kind
 
 -- what such a line gives
 abbrev pub Value : Kind → Type 0
@@ -39,9 +40,9 @@ Value (Count what most) = ℕ
 Value Layer = Option ℕ
 Value (Range var layer facts) = ℕ
 Value (Below range) = ℕ
-Value (FactIn shapes) = Fact
-Value (EffectIn shapes) = Option Fact × Effect
-Value (HeadIn shapes init conds) = Fact
+Value (FactIn variables) = Fact
+Value (EffectIn variables) = Option Fact × Effect
+Value (HeadIn variables init conds) = Rule
 
 -- what the line with that number gives, or its fault
 abbrev pub value_of : (kind : Kind) → ℕ → List ℕ → Result (Value kind) SasFault
@@ -54,9 +55,9 @@ value_of (Count what most) = count_line what most
 value_of Layer = layer_line
 value_of (Range var layer facts) = range_line var layer facts
 value_of (Below range) = value_line range
-value_of (FactIn shapes) = fact_line shapes
-value_of (EffectIn shapes) = effect_line shapes
-value_of (HeadIn shapes init conds) = head_line shapes init conds
+value_of (FactIn variables) = fact_line variables
+value_of (EffectIn variables) = effect_line variables
+value_of (HeadIn variables init conds) = head_line variables init conds
 
 -- A format: it gives something, or it wants a line of a kind, and what it wants then depends on what that line gives.
 pub data Format (A : Type 0) : Type 0 where

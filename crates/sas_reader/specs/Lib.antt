@@ -1,6 +1,5 @@
 pub mod FirstFault
 pub mod Formats
 pub mod Reading
-pub mod Shapes
 pub mod TaskText
 pub mod Walks

@@ -1,25 +1,16 @@
 -- The text of a planning task.
 use Rattle.std.specs.Prelude.{◌≡◌, ℕ, zero, suc, ◌+◌, List, [], ◌∷◌, ◌++◌, length, Bool, true, false, if◌then◌else◌, map, Option, Some, None, option_to_list}
 use Rattle.sas_reader.specs.Formats.{Format, Done, Line, ◌>>=◌, Kind, Begin, End, Version, ZeroOrOne, Name, Count, Layer, Range, Below, FactIn, EffectIn, HeadIn, line, times, each}
-use Rattle.sas_reader.specs.Shapes.{shapes_of}
+use Rattle.sas_task.specs.Limits.{most_variables, most_listed, most_operators, most_rules, highest_cost}
 use Rattle.sas_task.specs.declared.contents.Fact.{Fact}
 use Rattle.sas_task.specs.declared.contents.Variable.{Variable}
 use Rattle.sas_task.specs.declared.contents.Effect.{Effect}
 use Rattle.sas_task.specs.declared.contents.Operator.{Operator}
 use Rattle.sas_task.specs.declared.contents.Rule.{Rule}
 use Rattle.sas_task.specs.declared.contents.Parts.{Parts}
-use Rattle.sas_reader.specs.declared.shapes.Shape.{Shape}
 use Rattle.sas_reader.specs.declared.sections.Section.TheVariants.{Version as InVersion, Metric as InMetric, Variable as InVariable, MutexGroup as InGroup, State as InState, Goal as InGoal, Operator as InOperator, Rule as InRule}
 use Rattle.sas_task.specs.declared.refusals.What.{What}
 use Rattle.sas_task.specs.declared.refusals.What.TheVariants.{Variables, Groups, GroupFacts, Goals, Operators, Conditions, Effects, Rules, Cost}
-
--- a count of 1,048,576 at most
-abbrev pub few : What → Format ℕ
-few what = line (Count what 1048576)
-
--- a count of 4,194,304 at most
-abbrev pub many : What → Format ℕ
-many what = line (Count what 4194304)
 
 unfoldable pub version : Format (Unit {0})
 version = do
@@ -56,43 +47,43 @@ variables_from (suc n) var before = do
 
 unfoldable pub variables : Format (List Variable)
 variables = do
-  n ← few Variables
+  n ← line (Count Variables most_variables)
   variables_from n 0 0
 
 -- facts behind their count
-unfoldable pub facts : What → List Shape → Format (List Fact)
-facts what shapes = do
-  n ← few what
-  times n (line (FactIn shapes))
+unfoldable pub facts : What → List Variable → Format (List Fact)
+facts what variables = do
+  n ← line (Count what most_listed)
+  times n (line (FactIn variables))
 
-unfoldable pub group : List Shape → Format (List Fact)
-group shapes = do
+unfoldable pub group : List Variable → Format (List Fact)
+group variables = do
   begin ← line (Begin InGroup)
-  group ← facts GroupFacts shapes
+  group ← facts GroupFacts variables
   done ← line (End InGroup)
   Done group
 
-unfoldable pub groups : List Shape → Format (List (List Fact))
-groups shapes = do
-  n ← few Groups
-  times n (group shapes)
+unfoldable pub groups : List Variable → Format (List (List Fact))
+groups variables = do
+  n ← line (Count Groups most_listed)
+  times n (group variables)
 
 -- an initial value
-abbrev pub initial : Shape → Format ℕ
-initial shape = line (Below shape.range)
+abbrev pub initial : Variable → Format ℕ
+initial variable = line (Below (length variable.values))
 
 -- an initial value for each variable
-unfoldable pub state : List Shape → Format (List ℕ)
-state shapes = do
+unfoldable pub state : List Variable → Format (List ℕ)
+state variables = do
   begin ← line (Begin InState)
-  values ← each initial shapes
+  values ← each initial variables
   done ← line (End InState)
   Done values
 
-unfoldable pub goal : List Shape → Format (List Fact)
-goal shapes = do
+unfoldable pub goal : List Variable → Format (List Fact)
+goal variables = do
   begin ← line (Begin InGoal)
-  goal ← facts Goals shapes
+  goal ← facts Goals variables
   done ← line (End InGoal)
   Done goal
 
@@ -102,40 +93,40 @@ preconditions [] = []
 preconditions (e ∷ es) = option_to_list e.0 ++ preconditions es
 
 -- What the effects need comes behind the prevail conditions.
-unfoldable pub changes : List Shape → Format (List Fact × List Effect)
-changes shapes = do
-  prevail ← facts Conditions shapes
-  n ← few Effects
-  effects ← times n (line (EffectIn shapes))
+unfoldable pub changes : List Variable → Format (List Fact × List Effect)
+changes variables = do
+  prevail ← facts Conditions variables
+  n ← line (Count Effects most_listed)
+  effects ← times n (line (EffectIn variables))
   Done (prevail ++ preconditions effects, map (λ e. e.1) effects)
 
 -- Without a metric every operator costs 1, whatever its line says.
-unfoldable pub operator : Bool → List Shape → Format Operator
-operator metric shapes = do
+unfoldable pub operator : Bool → List Variable → Format Operator
+operator metric variables = do
   begin ← line (Begin InOperator)
   name ← line Name
-  changes ← changes shapes
-  cost ← line (Count Cost 2147483647)
+  changes ← changes variables
+  cost ← line (Count Cost highest_cost)
   done ← line (End InOperator)
   Done (record { name = name; pre = changes.0; effects = changes.1; cost = if metric then cost else 1 })
 
-unfoldable pub operators : Bool → List Shape → Format (List Operator)
-operators metric shapes = do
-  n ← many Operators
-  times n (operator metric shapes)
+unfoldable pub operators : Bool → List Variable → Format (List Operator)
+operators metric variables = do
+  n ← line (Count Operators most_operators)
+  times n (operator metric variables)
 
-unfoldable pub rule : List Shape → List ℕ → Format Rule
-rule shapes init = do
+unfoldable pub rule : List Variable → List ℕ → Format Rule
+rule variables init = do
   begin ← line (Begin InRule)
-  conds ← facts Conditions shapes
-  head ← line (HeadIn shapes init conds)
+  conds ← facts Conditions variables
+  rule ← line (HeadIn variables init conds)
   done ← line (End InRule)
-  Done (record { conds = conds; head = head })
+  Done rule
 
-unfoldable pub rules : List Shape → List ℕ → Format (List Rule)
-rules shapes init = do
-  n ← many Rules
-  times n (rule shapes init)
+unfoldable pub rules : List Variable → List ℕ → Format (List Rule)
+rules variables init = do
+  n ← line (Count Rules most_rules)
+  times n (rule variables init)
 
 -- the metric and the variables
 unfoldable pub opening : Format (Bool × List Variable)
@@ -146,22 +137,22 @@ opening = do
   Done (metric, variables)
 
 -- the initial values and the goal
-unfoldable pub ends : List Shape → Format (List ℕ × List Fact)
-ends shapes = do
-  init ← state shapes
-  goal ← goal shapes
+unfoldable pub ends : List Variable → Format (List ℕ × List Fact)
+ends variables = do
+  init ← state variables
+  goal ← goal variables
   Done (init, goal)
 
 -- the parts behind the variables
-unfoldable pub rest : Bool → List Variable → List Shape → Format Parts
-rest metric variables shapes = do
-  groups ← groups shapes
-  ends ← ends shapes
-  operators ← operators metric shapes
-  rules ← rules shapes ends.0
+unfoldable pub rest : Bool → List Variable → Format Parts
+rest metric variables = do
+  groups ← groups variables
+  ends ← ends variables
+  operators ← operators metric variables
+  rules ← rules variables ends.0
   Done (record { metric = metric; variables = variables; groups = groups; init = ends.0; goal = ends.1; operators = operators; rules = rules })
 
 unfoldable pub task : Format Parts
 task = do
   opening ← opening
-  rest opening.0 opening.1 (shapes_of opening.1)
+  rest opening.0 opening.1

@@ -2,6 +2,7 @@
 use Rattle.std.specs.Prelude.{◌≡◌, ℕ, ◌+◌, List, [], ◌∷◌, ◌++◌, map, length, nat_eq, nat_le, if◌then◌else◌, Option, Some, None, Result, Ok, Err}
 use Rattle.lama_num.specs.Gives.{◌>>=◌}
 use Rattle.text_lines.specs.Lines.{Place, lines_of}
+use Rattle.sas_reader.specs.Reading.{most_bytes}
 use Rattle.sas_reader.specs.Formats.{Format, Done, Line, Kind, Value, value_of}
 use Rattle.sas_reader.specs.TaskText.{task, preconditions}
 use Rattle.sas_task.specs.declared.contents.Fact.{Fact}
@@ -57,7 +58,7 @@ parts_in lines = walk task (record { left = lines; line = 1 }) >>= whole
 
 -- what a text gives, or its first fault
 unfoldable pub parts_of : List ℕ → Result Parts SasFault
-parts_of bytes = if nat_le (length bytes) 268435456 then parts_in (lines_of bytes) else Err (TooLarge Bytes (length bytes))
+parts_of bytes = if nat_le (length bytes) most_bytes then parts_in (lines_of bytes) else Err (TooLarge Bytes (length bytes))
 
 -- preconditions and effects, and behind them those of what was read
 abbrev pub changed : List Fact → List Effect → Result (List (Option Fact × Effect) × Place) SasFault → Result ((List Fact × List Effect) × Place) SasFault

@@ -1,6 +1,7 @@
 // Why bytes are no task.
 ghost use Rattle.std.specs.Prelude.{◌≡◌};
-ghost use Rattle.sas_reader.specs.declared.faults.SasError.TheVariants.{Bad as TheBad, NoMemory as OutOfMemory};
+ghost use Rattle.sas_reader.specs.declared.faults.SasError.TheVariants.{Bad as TheBad};
+ghost use Rattle.sas_reader.specs.declared.faults.SasError.TheVariants.{NoMemory as OutOfMemory};
 
 use sas_task::What;
 use std::alloc::{AllocError, AllocFailed};

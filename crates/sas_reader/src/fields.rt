@@ -2,23 +2,22 @@
 ghost use Rattle.std.specs.Prelude.{◌≡◌, ◌≤◌, ◌+◌, ◌<◌, IfOk, length, option_map, codes};
 ghost use Rattle.std.specs.Str.{bytes_eq};
 ghost use Rattle.lama_num.specs.Gives.{Gives};
-ghost use Rattle.sas_reader.specs.Formats.{Begin, End, Version, ZeroOrOne, Name as AName, Count, Layer as ALayer, Range as ARange, Below};
-ghost use Rattle.sas_reader.specs.Reading.{or_fault, one_number as the_number, zero_or_one as the_zero_or_one, only_if, count_line, layer_line, range_line, value_line, at_most as the_limit, is_narrow as narrow_test};
+ghost use Rattle.sas_task.specs.Limits.{most_listed, most_facts};
+ghost use Rattle.sas_reader.specs.Formats.{Begin, End, Version, ZeroOrOne, Name as AName, Count};
+ghost use Rattle.sas_reader.specs.Formats.{Layer as ALayer, Range as ARange, Below};
+ghost use Rattle.sas_reader.specs.Reading.{or_fault, one_number as the_number};
+ghost use Rattle.sas_reader.specs.Reading.{zero_or_one as the_zero_or_one, only_if, count_line};
+ghost use Rattle.sas_reader.specs.Reading.{layer_line, range_line, value_line};
+ghost use Rattle.sas_reader.specs.Reading.{at_most as the_limit, is_narrow as narrow_test};
 ghost use Rattle.sas_reader.specs.Walks.{fault_of, first_line, next_by, next};
 
 use crate::faults::{SasError, SasFault, Want};
 use crate::numbers::{number_or_none, one_number};
 use crate::sections::Section;
 use lama_num::Seq;
-use sas_task::What;
+use sas_task::{HIGHEST_LAYER, LONGEST_NAME, MOST_FACTS, MOST_LISTED, What};
 use std::alloc::Global;
 use text_lines::Cursor;
-
-/// The most values of a variable, and the most layers.
-const MOST: u64 = 1_048_576;
-
-/// The most facts.
-const MOST_FACTS: u64 = 4_194_304;
 
 /// The next line, which has to be there.
 pub fn wanted<'a>(cursor: &mut Cursor<'a>) -> Result<&'a [u8], SasError>
@@ -31,10 +30,11 @@ pub fn wanted<'a>(cursor: &mut Cursor<'a>) -> Result<&'a [u8], SasError>
     }
 }
 
-pub fn at_most(what: What, most: u64, count: u64) -> Result<(), SasFault>
+/// A quantity within its limit.
+pub fn at_most(what: What, most: usize, count: u64) -> Result<(), SasFault>
     ensures { result ≡ the_limit what most count }
 {
-    if count <= most {
+    if count <= most as u64 {
         Ok(())
     } else {
         Err(SasFault::TooLarge { what, count })
@@ -53,7 +53,9 @@ fn number(line: u64, text: &[u8]) -> Result<u64, SasFault>
 /// A line that has to be a text.
 #[tactic(auto, unfolding(crate::specs::Walks::next_by))]
 fn expected(cursor: &mut Cursor, text: &[u8], want: Want) -> Result<(), SasError>
-    ensures { Gives fault_of (λ _. (tt, cursor.new)) result (next_by (λ n line. only_if (bytes_eq line text.now) (SasFault.BadLine n want)) cursor.old) }
+    ensures { Gives fault_of (λ _. (tt, cursor.new)) result
+        (next_by (λ n line. only_if (bytes_eq line text.now) (SasFault.BadLine n want))
+        cursor.old) }
 {
     let line = cursor.line();
     if wanted(cursor)? == text {
@@ -126,12 +128,13 @@ pub fn read_name(alloc: Global, cursor: &mut Cursor) -> Result<Seq<u8>, SasError
             want: Want::Name,
         }));
     }
-    at_most(What::Name, 4096, name.len() as u64)?;
+    at_most(What::Name, LONGEST_NAME, name.len() as u64)?;
     Ok(Seq::from(Vec::from_slice(alloc, name)?))
 }
 
+/// A line as a number, up to a limit.
 #[tactic(auto, unfolding(crate::specs::Reading::count_line))]
-fn count_in(what: What, most: u64, line: u64, text: &[u8]) -> Result<u64, SasFault>
+fn line_as_count(what: What, most: usize, line: u64, text: &[u8]) -> Result<u64, SasFault>
     ensures count { result ≡ count_line what most line text.now }
     ensures few { IfOk result (λ n. n ≤ most) }
 {
@@ -142,24 +145,26 @@ fn count_in(what: What, most: u64, line: u64, text: &[u8]) -> Result<u64, SasFau
 
 /// One number, up to a limit.
 #[tactic(auto, unfolding(crate::specs::Walks::next_by))]
-pub fn read_count(cursor: &mut Cursor, what: What, most: u64) -> Result<u64, SasError>
-    ensures count { Gives fault_of (λ n. (n, cursor.new)) result (next (Count what most) cursor.old) }
+pub fn read_count(cursor: &mut Cursor, what: What, most: usize) -> Result<u64, SasError>
+    ensures count { Gives fault_of (λ n. (n, cursor.new)) result
+        (next (Count what most) cursor.old) }
     ensures few { IfOk result (λ n. n ≤ most) }
 {
     let line = cursor.line();
     let text = wanted(cursor)?;
-    Ok(count_in(what, most, line, text)?)
+    Ok(line_as_count(what, most, line, text)?)
 }
 
+/// A line as a layer, or `None` where it is `-1`.
 #[tactic(auto, unfolding(crate::specs::Reading::layer_line))]
-fn layer_in(line: u64, text: &[u8]) -> Result<Option<u32>, SasFault>
+fn line_as_layer(line: u64, text: &[u8]) -> Result<Option<u32>, SasFault>
     ensures { result ≡ layer_line line text.now }
 {
     match number_or_none(text) {
         None => Err(SasFault::BadNumber { line }),
         Some(None) => Ok(None),
         Some(Some(layer)) => {
-            at_most(What::Layer, MOST, layer)?;
+            at_most(What::Layer, HIGHEST_LAYER as usize, layer)?;
             Ok(Some(layer as u32))
         }
     }
@@ -172,7 +177,7 @@ pub fn read_layer(cursor: &mut Cursor) -> Result<Option<u32>, SasError>
 {
     let line = cursor.line();
     let text = wanted(cursor)?;
-    Ok(layer_in(line, text)?)
+    Ok(line_as_layer(line, text)?)
 }
 
 /// A derived variable has two values.
@@ -182,23 +187,24 @@ fn is_narrow(layer: Option<u32>, range: u64) -> bool
     layer.is_none() || range == 2
 }
 
+/// A line as a variable's number of values.
 #[tactic(auto, unfolding(crate::specs::Reading::range_line))]
-fn range_in(
+fn line_as_range(
     var: u32,
     layer: Option<u32>,
     facts: u64,
     line: u64,
     text: &[u8],
 ) -> Result<u64, SasFault>
-    requires { facts ≤ 4194304 }
+    requires { facts ≤ most_facts }
     ensures range { result ≡ range_line var layer facts line text.now }
-    ensures few { IfOk result (λ range. (range ≤ 1048576) × (facts + range ≤ 4194304)) }
+    ensures few { IfOk result (λ range. (range ≤ most_listed) × (facts + range ≤ most_facts)) }
 {
     let range = number(line, text)?;
     if range == 0 {
         return Err(SasFault::BadNumber { line });
     }
-    at_most(What::Range, MOST, range)?;
+    at_most(What::Range, MOST_LISTED, range)?;
     at_most(What::Facts, MOST_FACTS, facts + range)?;
     if is_narrow(layer, range) {
         Ok(range)
@@ -216,21 +222,24 @@ pub fn read_range(
     layer: Option<u32>,
     facts: u64,
 ) -> Result<u64, SasError>
-    requires { facts ≤ 4194304 }
-    ensures range { Gives fault_of (λ range. (range, cursor.new)) result (next (ARange var layer facts) cursor.old) }
-    ensures few { IfOk result (λ range. (range ≤ 1048576) × (facts + range ≤ 4194304)) }
+    requires { facts ≤ most_facts }
+    ensures range { Gives fault_of (λ range. (range, cursor.new)) result
+        (next (ARange var layer facts) cursor.old) }
+    ensures few { IfOk result (λ range. (range ≤ most_listed) × (facts + range ≤ most_facts)) }
 {
     let line = cursor.line();
     let text = wanted(cursor)?;
-    Ok(range_in(var, layer, facts, line, text)?)
+    Ok(line_as_range(var, layer, facts, line, text)?)
 }
 
+/// A line as a value below a range.
 #[tactic(auto, unfolding(crate::specs::Reading::value_line))]
-fn value_in(range: u32, line: u64, text: &[u8]) -> Result<u32, SasFault>
+fn line_as_value(range: usize, line: u64, text: &[u8]) -> Result<u32, SasFault>
+    requires { range ≤ most_listed }
     ensures { result ≡ value_line range line text.now }
 {
     let value = number(line, text)?;
-    if value < u64::from(range) {
+    if value < range as u64 {
         Ok(value as u32)
     } else {
         Err(SasFault::BadFact { line })
@@ -239,10 +248,11 @@ fn value_in(range: u32, line: u64, text: &[u8]) -> Result<u32, SasFault>
 
 /// A value below a range.
 #[tactic(auto, unfolding(crate::specs::Walks::next_by))]
-pub fn read_value(cursor: &mut Cursor, range: u32) -> Result<u32, SasError>
+pub fn read_value(cursor: &mut Cursor, range: usize) -> Result<u32, SasError>
+    requires { range ≤ most_listed }
     ensures { Gives fault_of (λ value. (value, cursor.new)) result (next (Below range) cursor.old) }
 {
     let line = cursor.line();
     let text = wanted(cursor)?;
-    Ok(value_in(range, line, text)?)
+    Ok(line_as_value(range, line, text)?)
 }

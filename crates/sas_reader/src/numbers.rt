@@ -1,11 +1,16 @@
-// Readers of words as numbers and facts.
-ghost use Rattle.std.specs.Prelude.{◌≡◌, ◌≤◌, IfOk, Some, None, length, option_map, codes, if◌then◌else◌};
-ghost use Rattle.text_lines.specs.Lines.{words_of};
-ghost use Rattle.sas_reader.specs.Reading.{one_number as the_number, decimal_or_none as the_decimal_or_none, number_or_none as the_number_or_none, number_at as the_number_at, number_or_none_at as the_number_or_none_at, fact_at as the_fact_at, facts_at as the_facts_at, old_in as the_old, change_in as the_change, change_at as the_change_at, head_in as the_head, head_at as the_head_at, seen};
+// The words of a line as numbers.
+ghost use Rattle.std.specs.Prelude.{◌≡◌, IfOk, length, option_map, codes};
+ghost use Rattle.sas_reader.specs.Reading.{one_number as the_number};
+ghost use Rattle.sas_reader.specs.Reading.{decimal_or_none as the_decimal_or_none};
+ghost use Rattle.sas_reader.specs.Reading.{number_or_none as the_number_or_none};
+ghost use Rattle.sas_reader.specs.Reading.{number_at as the_number_at};
+ghost use Rattle.sas_reader.specs.Reading.{number_or_none_at as the_number_or_none_at};
+ghost use Rattle.sas_reader.specs.Reading.{pair_at as the_pair_at, pairs_at as the_pairs_at};
+ghost use Rattle.sas_reader.specs.Reading.{one_pair as the_pair, change_at as the_change_at};
+ghost use Rattle.sas_reader.specs.Reading.{effect_numbers as the_effect_numbers};
+ghost use Rattle.sas_reader.specs.Reading.{head_at as the_head_at, one_head as the_head};
 
-use crate::shapes::{Shape, fact_in, layer_in};
 use lama_num::read_decimal;
-use sas_task::Fact;
 use std::alloc::{AllocError, Global};
 use text_lines::Words;
 
@@ -45,7 +50,7 @@ pub fn number_or_none(line: &[u8]) -> Option<Option<u64>>
 }
 
 /// Takes a number.
-pub fn number_at(words: &mut Words) -> Option<u64>
+fn number_at(words: &mut Words) -> Option<u64>
     ensures { option_map (λ n. (n, words.new)) result ≡ the_number_at words.old }
 {
     let word = words.next_word()?;
@@ -60,105 +65,130 @@ fn number_or_none_at(words: &mut Words) -> Option<Option<u64>>
     decimal_or_none(word)
 }
 
+/// The numbers of a variable and of its value, as a line has them.
+#[derive(Clone, Copy)]
+pub struct Pair {
+    pub var: u64,
+    pub val: u64,
+}
+
 /// Takes the numbers of a variable and of its value.
-#[tactic(auto, unfolding(crate::specs::Reading::fact_at))]
-pub fn fact_at(words: &mut Words, shapes: &[Shape]) -> Option<Option<Fact>>
-    requires { length shapes.now ≤ 1048576 }
-    ensures { option_map (λ fact. (fact, words.new)) result ≡ the_fact_at shapes.now words.old }
+#[tactic(auto, unfolding(crate::specs::Reading::pair_at))]
+fn pair_at(words: &mut Words) -> Option<Pair>
+    ensures { option_map (λ pair. (pair, words.new)) result ≡ the_pair_at words.old }
 {
     let var = number_at(words)?;
     let val = number_at(words)?;
-    Some(fact_in(shapes, var, val))
+    Some(Pair { var, val })
 }
 
-/// Conditions, as far as they are facts.
-#[derive(Drop)]
-pub struct Gathered {
-    pub facts: Vec<Fact>,
-    /// Whether all are facts.
-    pub all: bool,
-}
-
-/// Takes so many pairs of numbers.
-#[tactic(auto, using(crate::proofs::Gathering::gather_fact, crate::proofs::Gathering::gather_other, crate::proofs::Gathering::gather_stop, crate::proofs::Gathering::gather_end))]
-pub fn facts_at(
-    alloc: Global,
-    words: &mut Words,
-    shapes: &[Shape],
-    count: u64,
-) -> Result<Option<Gathered>, AllocError>
-    requires { length shapes.now ≤ 1048576 }
-    ensures { IfOk result (λ found. option_map (λ c. (seen c, words.new)) found ≡ the_facts_at shapes.now count words.old) }
+/// Takes so many pairs.
+#[tactic(auto, using(crate::proofs::Pairs::pairs_loop))]
+fn pairs_at(alloc: Global, words: &mut Words, count: u64) -> Result<Option<Vec<Pair>>, AllocError>
+    ensures { IfOk result (λ found.
+        option_map (λ pairs. (pairs.items, words.new)) found ≡ the_pairs_at count words.old) }
 {
-    let mut facts = Vec::new(alloc);
-    let mut all = true;
+    let mut pairs = Vec::new(alloc);
     for _i in 0..count {
-        match fact_at(words, shapes) {
+        match pair_at(words) {
+            Some(pair) => pairs.push(pair)?,
             None => return Ok(None),
-            Some(None) => all = false,
-            Some(Some(fact)) => facts.push(fact)?,
         }
     }
-    Ok(Some(Gathered { facts, all }))
+    Ok(Some(pairs))
 }
 
-fn old_in(shapes: &[Shape], var: u64, old: Option<u64>) -> Option<Option<Fact>>
-    requires { length shapes.now ≤ 1048576 }
-    ensures { result ≡ the_old shapes.now var old }
+/// The pair that a line is.
+pub fn one_pair(line: &[u8]) -> Option<Pair>
+    ensures { result ≡ the_pair line.now }
 {
-    match old {
-        None => Some(None),
-        Some(val) => Some(Some(fact_in(shapes, var, val)?)),
+    let mut words = Words::new(line);
+    let pair = pair_at(&mut words)?;
+    match words.next_word() {
+        None => Some(pair),
+        Some(_) => None,
     }
 }
 
-/// What an effect changes, and what it needs of its variable.
+/// The numbers of the variable that an effect changes, of its old value where that isn't `-1`, and
+/// of its new value.
 #[derive(Clone, Copy)]
 pub struct Change {
-    pub pre: Option<Fact>,
-    pub fact: Fact,
-}
-
-fn change_in(shapes: &[Shape], var: u64, old: Option<u64>, new: u64) -> Option<Change>
-    requires { length shapes.now ≤ 1048576 }
-    ensures { option_map (λ c. (c.pre, c.fact)) result ≡ the_change shapes.now var old new }
-{
-    if layer_in(shapes, var).is_some() {
-        return None;
-    }
-    let pre = old_in(shapes, var, old)?;
-    let fact = fact_in(shapes, var, new)?;
-    Some(Change { pre, fact })
+    pub var: u64,
+    pub old: Option<u64>,
+    pub new: u64,
 }
 
 /// Takes the numbers of a variable, of its old value or `-1`, and of its new value.
 #[tactic(auto, unfolding(crate::specs::Reading::change_at))]
-pub fn change_at(words: &mut Words, shapes: &[Shape]) -> Option<Option<Change>>
-    requires { length shapes.now ≤ 1048576 }
-    ensures { option_map (λ found. (option_map (λ c. (c.pre, c.fact)) found, words.new)) result ≡ the_change_at shapes.now words.old }
+fn change_at(words: &mut Words) -> Option<Change>
+    ensures { option_map (λ change. (change, words.new)) result ≡ the_change_at words.old }
 {
     let var = number_at(words)?;
     let old = number_or_none_at(words)?;
     let new = number_at(words)?;
-    Some(change_in(shapes, var, old, new))
+    Some(Change { var, old, new })
 }
 
-fn head_in(shapes: &[Shape], var: u64, old: u64, new: u64) -> Option<Fact>
-    requires { length shapes.now ≤ 1048576 }
-    ensures { result ≡ the_head shapes.now var old new }
+/// The numbers of an effect's line.
+#[derive(Drop)]
+pub struct EffectNumbers {
+    pub conds: Vec<Pair>,
+    pub change: Change,
+}
+
+/// The numbers of an effect that a line is.
+#[tactic(auto, unfolding(crate::specs::Reading::effect_numbers))]
+pub fn effect_numbers(alloc: Global, line: &[u8]) -> Result<Option<EffectNumbers>, AllocError>
+    ensures { IfOk result (λ found.
+        option_map (λ e. (e.conds.items, e.change)) found ≡ the_effect_numbers line.now) }
 {
-    fact_in(shapes, var, old)?;
-    fact_in(shapes, var, new)
+    let mut words = Words::new(line);
+    let count = match number_at(&mut words) {
+        Some(count) => count,
+        None => return Ok(None),
+    };
+    let conds = match pairs_at(alloc, &mut words, count)? {
+        Some(conds) => conds,
+        None => return Ok(None),
+    };
+    let change = match change_at(&mut words) {
+        Some(change) => change,
+        None => return Ok(None),
+    };
+    match words.next_word() {
+        None => Ok(Some(EffectNumbers { conds, change })),
+        Some(_) => Ok(None),
+    }
+}
+
+/// The numbers of the variable that a rule sets, of its old value and of its new value.
+#[derive(Clone, Copy)]
+pub struct Head {
+    pub var: u64,
+    pub old: u64,
+    pub new: u64,
 }
 
 /// Takes the numbers of a variable, of its old value and of its new value.
 #[tactic(auto, unfolding(crate::specs::Reading::head_at))]
-pub fn head_at(words: &mut Words, shapes: &[Shape]) -> Option<Option<Fact>>
-    requires { length shapes.now ≤ 1048576 }
-    ensures { option_map (λ fact. (fact, words.new)) result ≡ the_head_at shapes.now words.old }
+fn head_at(words: &mut Words) -> Option<Head>
+    ensures { option_map (λ head. (head, words.new)) result ≡ the_head_at words.old }
 {
     let var = number_at(words)?;
     let old = number_at(words)?;
     let new = number_at(words)?;
-    Some(head_in(shapes, var, old, new))
+    Some(Head { var, old, new })
+}
+
+/// The numbers of a rule's head that a line is.
+pub fn one_head(line: &[u8]) -> Option<Head>
+    ensures { result ≡ the_head line.now }
+{
+    let mut words = Words::new(line);
+    let head = head_at(&mut words)?;
+    match words.next_word() {
+        None => Some(head),
+        Some(_) => None,
+    }
 }

@@ -1,10 +1,11 @@
 // The reader of whole texts.
-ghost use Rattle.std.specs.Prelude.{◌≡◌, ◌≤◌, IfOk, None, length};
+ghost use Rattle.std.specs.Prelude.{◌≡◌, ◌≤◌, IfOk, None};
 ghost use Rattle.lama_num.specs.Gives.{Gives};
-ghost use Rattle.sas_reader.specs.FirstFault.{IsTextOf, IsFirstFaultOf};
 ghost use Rattle.text_lines.specs.Lines.{lines_of};
-ghost use Rattle.sas_reader.specs.Shapes.{shapes_of};
-ghost use Rattle.sas_reader.specs.TaskText.{opening as the_opening, ends as the_ends, rest as the_rest, task as the_task};
+ghost use Rattle.sas_reader.specs.FirstFault.{IsTextOf, IsFirstFaultOf, Reads, ExactlyOne};
+ghost use Rattle.sas_reader.specs.Reading.{AreVariables};
+ghost use Rattle.sas_reader.specs.TaskText.{opening as the_opening, ends as the_ends};
+ghost use Rattle.sas_reader.specs.TaskText.{rest as the_rest, task as the_task};
 ghost use Rattle.sas_reader.specs.Walks.{fault_of, walk, trailing, parts_in, parts_of, task_of};
 ghost use Rattle.sas_reader.specs.declared.faults.SasFault.{SasFault as TheFault};
 ghost use Rattle.sas_task.specs.Refusals.{brought, refusal_of};
@@ -12,28 +13,27 @@ ghost use Rattle.sas_task.specs.Refusals.{brought, refusal_of};
 use crate::conditions::{read_goal, read_groups};
 use crate::faults::{SasError, SasFault};
 use crate::operators::{read_operators, read_rules};
-use crate::shapes::Shape;
-use crate::variables::{Variables, read_metric, read_state, read_variables, read_version};
+use crate::variables::{read_metric, read_state, read_variables, read_version};
 use lama_num::Seq;
-use sas_task::{Fact, Parts, Task, What, check};
+use sas_task::{Fact, Parts, Task, Variable, What, accepted};
 use std::alloc::Global;
 use text_lines::Cursor;
 
 /// The most bytes of a text.
-const MOST_BYTES: usize = 268_435_456;
+pub const MOST_BYTES: usize = 268_435_456;
 
 /// What stands before the mutex groups.
 #[derive(Drop)]
 struct Opening {
     metric: bool,
-    variables: Variables,
+    variables: Vec<Variable>,
 }
 
-#[tactic(auto, using(crate::proofs::Walking::walk_bind), unfolding(crate::specs::TaskText::opening))]
+#[tactic(auto, using(crate::proofs::Walking::walk_on), unfolding(crate::specs::TaskText::opening))]
 fn read_opening(alloc: Global, cursor: &mut Cursor) -> Result<Opening, SasError>
-    ensures opening { Gives fault_of (λ o. ((o.metric, o.variables.all.items), cursor.new)) result (walk the_opening cursor.old) }
-    ensures shapes { IfOk result (λ o. o.variables.shapes.items ≡ shapes_of o.variables.all.items) }
-    ensures few { IfOk result (λ o. length o.variables.shapes.items ≤ 1048576) }
+    ensures opening { Gives fault_of (λ o. ((o.metric, o.variables.items), cursor.new)) result
+        (walk the_opening cursor.old) }
+    ensures known { IfOk result (λ o. AreVariables o.variables.items) }
 {
     read_version(cursor)?;
     let metric = read_metric(cursor)?;
@@ -48,29 +48,31 @@ struct Ends {
     goal: Seq<Fact>,
 }
 
-#[tactic(auto, using(crate::proofs::Walking::walk_bind), unfolding(crate::specs::TaskText::ends))]
-fn read_ends(alloc: Global, cursor: &mut Cursor, shapes: &[Shape]) -> Result<Ends, SasError>
-    requires { length shapes.now ≤ 1048576 }
-    ensures { Gives fault_of (λ e. ((e.init, e.goal), cursor.new)) result (walk (the_ends shapes.now) cursor.old) }
+#[tactic(auto, using(crate::proofs::Walking::walk_on), unfolding(crate::specs::TaskText::ends))]
+fn read_ends(alloc: Global, cursor: &mut Cursor, variables: &[Variable]) -> Result<Ends, SasError>
+    requires { AreVariables variables.now }
+    ensures { Gives fault_of (λ e. ((e.init, e.goal), cursor.new)) result
+        (walk (the_ends variables.now) cursor.old) }
 {
-    let init = read_state(alloc, cursor, shapes)?;
-    let goal = read_goal(alloc, cursor, shapes)?;
+    let init = read_state(alloc, cursor, variables)?;
+    let goal = read_goal(alloc, cursor, variables)?;
     Ok(Ends { init, goal })
 }
 
-#[tactic(auto, using(crate::proofs::Walking::walk_bind), unfolding(crate::specs::TaskText::rest))]
+#[tactic(auto, using(crate::proofs::Walking::walk_on), unfolding(crate::specs::TaskText::rest))]
 fn read_rest(alloc: Global, cursor: &mut Cursor, opening: Opening) -> Result<Parts, SasError>
-    requires { length opening.variables.shapes.items ≤ 1048576 }
-    ensures { Gives fault_of (λ parts. (parts, cursor.new)) result (walk (the_rest opening.metric opening.variables.all.items opening.variables.shapes.items) cursor.old) }
+    requires { AreVariables opening.variables.items }
+    ensures { Gives fault_of (λ parts. (parts, cursor.new)) result
+        (walk (the_rest opening.metric opening.variables.items) cursor.old) }
 {
     let Opening { metric, variables } = opening;
-    let groups = read_groups(alloc, cursor, &variables.shapes)?;
-    let ends = read_ends(alloc, cursor, &variables.shapes)?;
-    let operators = read_operators(alloc, cursor, metric, &variables.shapes)?;
-    let rules = read_rules(alloc, cursor, &variables.shapes, &ends.init)?;
+    let groups = read_groups(alloc, cursor, &variables)?;
+    let ends = read_ends(alloc, cursor, &variables)?;
+    let operators = read_operators(alloc, cursor, metric, &variables)?;
+    let rules = read_rules(alloc, cursor, &variables, &ends.init)?;
     Ok(Parts {
         metric,
-        variables: Seq::from(variables.all),
+        variables: Seq::from(variables),
         groups,
         init: ends.init,
         goal: ends.goal,
@@ -79,7 +81,7 @@ fn read_rest(alloc: Global, cursor: &mut Cursor, opening: Opening) -> Result<Par
     })
 }
 
-#[tactic(auto, using(crate::proofs::Walking::walk_bind), unfolding(crate::specs::TaskText::task))]
+#[tactic(auto, using(crate::proofs::Walking::walk_on), unfolding(crate::specs::TaskText::task))]
 fn read_task(alloc: Global, cursor: &mut Cursor) -> Result<Parts, SasError>
     ensures { Gives fault_of (λ parts. (parts, cursor.new)) result (walk the_task cursor.old) }
 {
@@ -127,17 +129,6 @@ fn read_parts(alloc: Global, bytes: &[u8]) -> Result<Parts, SasError>
     read_lines(alloc, bytes)
 }
 
-/// The task of parts that are accepted.
-fn accepted(parts: Parts) -> Task
-    requires { refusal_of parts ≡ None }
-    ensures { result ≡ brought parts }
-{
-    match check(parts) {
-        Ok(task) => task,
-        Err(_) => unreachable!(),
-    }
-}
-
 #[tactic(auto, unfolding(crate::specs::Walks::task_of))]
 fn read_accepted(alloc: Global, bytes: &[u8]) -> Result<Task, SasError>
     ensures { Gives fault_of (λ task. task) result (task_of bytes.now) }
@@ -148,17 +139,20 @@ fn read_accepted(alloc: Global, bytes: &[u8]) -> Result<Task, SasError>
 
 /// The task that the bytes are the text of, or the first fault.
 ///
-/// The format is that of the translator of Fast Downward, version 3 of its output. Blanks and carriage
-/// returns at both ends of a line, several blanks between numbers, a wanting last line feed and empty
-/// lines at the end are no faults. The text is read in one pass, and takes no memory that only its
-/// counts promise.
+/// The format is that of the translator of Fast Downward, version 3 of its output. Blanks and
+/// carriage returns at both ends of a line, several blanks between numbers, a wanting last line
+/// feed and empty lines at the end are no faults. The text is read in one pass, and takes no memory
+/// that only its counts promise.
 pub fn read(alloc: Global, bytes: &[u8]) -> Result<Task, SasError>
     // The task of the text, or its first fault.
     ensures exact { Gives fault_of (λ task. task) result (task_of bytes.now) }
     // Each line is what the lines before it want.
     ensures text { IfOk result (λ task. IsTextOf bytes.now task) }
     // The fault is that of the first line that isn't.
-    ensures first { (fault : TheFault) → result ≡ Err (SasError.Bad fault) → IsFirstFaultOf bytes.now fault }
+    ensures first { (fault : TheFault) →
+        result ≡ Err (SasError.Bad fault) → IsFirstFaultOf bytes.now fault }
+    // Bytes are the text of one task or have one first fault, and never both.
+    ensures decided { ExactlyOne (Reads bytes.now) }
 {
     read_accepted(alloc, bytes)
 }

@@ -1,9 +1,13 @@
 // Readers of the parts up to the variables, and of the initial state.
-ghost use Rattle.std.specs.Prelude.{◌≡◌, ◌≤◌, ◌+◌, IfOk, length, map};
+ghost use Rattle.std.specs.Prelude.{◌≡◌, ◌≤◌, ◌+◌, IfOk, length};
 ghost use Rattle.lama_num.specs.Gives.{Gives};
+ghost use Rattle.sas_task.specs.Limits.{most_variables, most_listed, most_facts};
 ghost use Rattle.sas_reader.specs.Formats.{Name, line, times, each};
-ghost use Rattle.sas_reader.specs.Shapes.{shapes_of};
-ghost use Rattle.sas_reader.specs.TaskText.{version as the_version, metric as the_metric, variable as the_variable, variables_from, variables as the_variables, state as the_state, initial};
+ghost use Rattle.sas_reader.specs.Reading.{AreVariables};
+ghost use Rattle.sas_reader.specs.TaskText.{version as the_version, metric as the_metric};
+ghost use Rattle.sas_reader.specs.TaskText.{variable as the_variable, variables_from};
+ghost use Rattle.sas_reader.specs.TaskText.{variables as the_variables, state as the_state};
+ghost use Rattle.sas_reader.specs.TaskText.{initial};
 ghost use Rattle.sas_reader.specs.Walks.{fault_of, walk};
 
 use crate::faults::SasError;
@@ -12,14 +16,10 @@ use crate::fields::{
     read_zero_or_one,
 };
 use crate::sections::Section;
-use crate::shapes::Shape;
 use lama_num::Seq;
-use sas_task::{Variable, What};
+use sas_task::{MOST_VARIABLES, Variable, What};
 use std::alloc::Global;
 use text_lines::Cursor;
-
-/// The most variables.
-const MOST: u64 = 1_048_576;
 
 #[tactic(auto, unfolding(crate::specs::TaskText::version))]
 pub fn read_version(cursor: &mut Cursor) -> Result<(), SasError>
@@ -44,7 +44,8 @@ pub fn read_metric(cursor: &mut Cursor) -> Result<bool, SasError>
 
 #[tactic(auto, using(crate::proofs::Walking::loop_more, crate::proofs::Walking::loop_none))]
 fn read_names(alloc: Global, cursor: &mut Cursor, count: u64) -> Result<Vec<Seq<u8>>, SasError>
-    ensures names { Gives fault_of (λ names. (names.items, cursor.new)) result (walk (times count (line Name)) cursor.old) }
+    ensures names { Gives fault_of (λ names. (names.items, cursor.new)) result
+        (walk (times count (line Name)) cursor.old) }
     ensures so_many { IfOk result (λ names. length names.items ≡ count) }
 {
     let mut names = Vec::new(alloc);
@@ -58,16 +59,17 @@ fn read_names(alloc: Global, cursor: &mut Cursor, count: u64) -> Result<Vec<Seq<
 }
 
 /// The variable with this number, behind so many facts.
-#[tactic(auto, using(crate::proofs::Walking::walk_bind), unfolding(crate::specs::TaskText::variable))]
+#[tactic(auto, using(crate::proofs::Walking::walk_on), unfolding(crate::specs::TaskText::variable))]
 fn read_variable(
     alloc: Global,
     cursor: &mut Cursor,
     var: u32,
     before: u64,
 ) -> Result<Variable, SasError>
-    requires { before ≤ 4194304 }
-    ensures variable { Gives fault_of (λ v. (v, cursor.new)) result (walk (the_variable var before) cursor.old) }
-    ensures few { IfOk result (λ v. (length v.values ≤ 1048576) × (before + length v.values ≤ 4194304)) }
+    requires { before ≤ most_facts }
+    ensures variable { Gives fault_of (λ v. (v, cursor.new)) result
+        (walk (the_variable var before) cursor.old) }
+    ensures few { IfOk result (λ v. before + length v.values ≤ most_facts) }
 {
     read_begin(cursor, Section::Variable)?;
     let name = read_name(alloc, cursor)?;
@@ -82,61 +84,54 @@ fn read_variable(
     })
 }
 
-/// Variables, and what facts, effects and rules must know of them.
-#[derive(Drop)]
-pub struct Variables {
-    pub all: Vec<Variable>,
-    pub shapes: Vec<Shape>,
-}
-
-#[tactic(auto, using(crate::proofs::Parts::variables_more, crate::proofs::Parts::variables_none, crate::proofs::Parts::variables_fail))]
+#[tactic(auto, using(crate::proofs::Parts::variables_loop))]
 fn read_so_many_variables(
     alloc: Global,
     cursor: &mut Cursor,
     count: u64,
-) -> Result<Variables, SasError>
-    requires { count ≤ 1048576 }
-    ensures variables { Gives fault_of (λ v. (v.all.items, cursor.new)) result (walk (variables_from count 0 0) cursor.old) }
-    ensures shapes { IfOk result (λ v. v.shapes.items ≡ shapes_of v.all.items) }
-    ensures so_many { IfOk result (λ v. length v.all.items ≡ count) }
+) -> Result<Vec<Variable>, SasError>
+    requires { count ≤ most_variables }
+    ensures { Gives fault_of (λ vs. (vs.items, cursor.new)) result
+        (walk (variables_from count 0 0) cursor.old) }
 {
-    let mut all = Vec::new(alloc);
-    let mut shapes = Vec::new(alloc);
+    let mut variables = Vec::new(alloc);
     let mut facts: u64 = 0;
     for i in 0..count {
         match read_variable(alloc, cursor, i as u32, facts) {
             Ok(variable) => {
-                let range = variable.values.len();
-                facts += range as u64;
-                shapes.push(Shape {
-                    range: range as u32,
-                    layer: variable.layer,
-                })?;
-                all.push(variable)?;
+                facts += variable.values.len() as u64;
+                variables.push(variable)?;
             }
             Err(e) => return Err(e),
         }
     }
-    Ok(Variables { all, shapes })
+    Ok(variables)
 }
 
+/// The variables.
 #[tactic(auto, unfolding(crate::specs::TaskText::variables))]
-pub fn read_variables(alloc: Global, cursor: &mut Cursor) -> Result<Variables, SasError>
-    ensures variables { Gives fault_of (λ v. (v.all.items, cursor.new)) result (walk the_variables cursor.old) }
-    ensures shapes { IfOk result (λ v. v.shapes.items ≡ shapes_of v.all.items) }
-    ensures few { IfOk result (λ v. length v.shapes.items ≤ 1048576) }
+pub fn read_variables(alloc: Global, cursor: &mut Cursor) -> Result<Vec<Variable>, SasError>
+    ensures variables { Gives fault_of (λ vs. (vs.items, cursor.new)) result
+        (walk the_variables cursor.old) }
+    ensures known { IfOk result (λ vs. AreVariables vs.items) }
 {
-    let count = read_count(cursor, What::Variables, MOST)?;
+    let count = read_count(cursor, What::Variables, MOST_VARIABLES)?;
     read_so_many_variables(alloc, cursor, count)
 }
 
 #[tactic(auto, using(crate::proofs::Walking::row_none))]
-fn read_values(alloc: Global, cursor: &mut Cursor, shapes: &[Shape]) -> Result<Vec<u32>, SasError>
-    ensures { Gives fault_of (λ values. (values.items, cursor.new)) result (walk (each initial shapes.now) cursor.old) }
+fn read_values(
+    alloc: Global,
+    cursor: &mut Cursor,
+    variables: &[Variable],
+) -> Result<Vec<u32>, SasError>
+    requires { AreVariables variables.now }
+    ensures { Gives fault_of (λ values. (values.items, cursor.new)) result
+        (walk (each initial variables.now) cursor.old) }
 {
     let mut values = Vec::new(alloc);
-    for shape in shapes {
-        match read_value(cursor, shape.range) {
+    for variable in variables {
+        match read_value(cursor, variable.values.len()) {
             Ok(value) => values.push(value)?,
             Err(e) => return Err(e),
         }
@@ -145,16 +140,18 @@ fn read_values(alloc: Global, cursor: &mut Cursor, shapes: &[Shape]) -> Result<V
 }
 
 /// The initial values.
-#[tactic(auto, using(crate::proofs::Walking::walk_bind), unfolding(crate::specs::TaskText::state))]
+#[tactic(auto, using(crate::proofs::Walking::walk_on), unfolding(crate::specs::TaskText::state))]
 pub fn read_state(
     alloc: Global,
     cursor: &mut Cursor,
-    shapes: &[Shape],
+    variables: &[Variable],
 ) -> Result<Seq<u32>, SasError>
-    ensures { Gives fault_of (λ values. (values, cursor.new)) result (walk (the_state shapes.now) cursor.old) }
+    requires { AreVariables variables.now }
+    ensures { Gives fault_of (λ values. (values, cursor.new)) result
+        (walk (the_state variables.now) cursor.old) }
 {
     read_begin(cursor, Section::State)?;
-    let values = read_values(alloc, cursor, shapes)?;
+    let values = read_values(alloc, cursor, variables)?;
     read_end(cursor, Section::State)?;
     Ok(Seq::from(values))
 }

@@ -1,6 +1,9 @@
 // A place in a text, at the beginning of a line.
-ghost use Rattle.std.specs.Prelude.{◌≡◌, ◌≤◌, ◌<◌, ◌+◌, ◌^◌, length, MatchOption, [], ◌∷◌, position, nat_eq};
-ghost use Rattle.text_lines.specs.Lines.{Place, cut_lines, lines_of, is_blank as blank_test, is_margin as margin_test, without_left as the_left, without_right as the_right, trimmed as the_trimmed};
+ghost use Rattle.std.specs.Prelude.{◌≡◌, ◌≤◌, ◌<◌, ◌+◌, ◌^◌, length, MatchOption, [], ◌∷◌};
+ghost use Rattle.std.specs.Prelude.{position, nat_eq};
+ghost use Rattle.text_lines.specs.Lines.{Place, cut_lines, lines_of, is_blank as blank_test};
+ghost use Rattle.text_lines.specs.Lines.{is_margin as margin_test, without_left as the_left};
+ghost use Rattle.text_lines.specs.Lines.{without_right as the_right, trimmed as the_trimmed};
 
 use std::marker::Model;
 
@@ -44,7 +47,8 @@ impl<'a> Cursor<'a> {
     pub fn next_line(&mut self) -> Option<&'a [u8]>
         ensures { MatchOption result
             ((self.old.left ≡ []) × (self.new ≡ self.old))
-            (λ line. (self.old.left ≡ line.now ∷ self.new.left) × (self.new.line ≡ self.old.line + 1)) }
+            (λ line. (self.old.left ≡ line.now ∷ self.new.left)
+            × (self.new.line ≡ self.old.line + 1)) }
     {
         if self.rest.is_empty() {
             return None;

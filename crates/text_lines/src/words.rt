@@ -1,5 +1,6 @@
 // The words of a line.
-ghost use Rattle.std.specs.Prelude.{◌≡◌, ◌<◌, ◌≤◌, length, MatchOption, [], ◌∷◌, ◌+◌, position, take, drop};
+ghost use Rattle.std.specs.Prelude.{◌≡◌, ◌<◌, ◌≤◌, length, MatchOption, [], ◌∷◌, ◌+◌, position};
+ghost use Rattle.std.specs.Prelude.{take, drop};
 ghost use Rattle.text_lines.specs.Lines.{words_of, is_blank as blank_test, FirstIsNoBlank};
 
 use crate::cursor::is_blank;

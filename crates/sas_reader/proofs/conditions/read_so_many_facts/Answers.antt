@@ -4,4 +4,4 @@ use Rattle.sas_reader.proofs.Walking.{lines_fail}
 use Rattle.sas_reader.proofs.conditions.read_so_many_facts.Goals as goal
 
 pub returns-in-Err : goal.returns-in-Err
-returns-in-Err c = rw c.loop-i.invariant at (lines_fail (FactIn c.args.shapes.now) c.loop-i.facts.items c.args.count c.loop-i._i c.loop-i.cursor c.in-Err.e (omega arith) c.in-Err.ensures)
+returns-in-Err c = rw c.loop-i.invariant at (lines_fail (FactIn c.args.variables.now) c.loop-i.facts.items c.args.count c.loop-i._i c.loop-i.cursor c.in-Err.e (omega arith) c.in-Err.ensures)

@@ -6,4 +6,4 @@ use Rattle.sas_reader.proofs.Walking.{behind}
 use Rattle.sas_reader.proofs.conditions.read_so_many_facts.Given as goal
 
 abbrev pub invariant-loop-i : goal.invariant-loop-i
-invariant-loop-i l = behind l.facts.items (walk (times (l.count - l._i) (line (FactIn l.shapes))) l.cursor) ≡ walk (times l.count (line (FactIn l.shapes))) l.fn.cursor
+invariant-loop-i l = behind l.facts.items (walk (times (l.count - l._i) (line (FactIn l.variables))) l.cursor) ≡ walk (times l.count (line (FactIn l.variables))) l.fn.cursor

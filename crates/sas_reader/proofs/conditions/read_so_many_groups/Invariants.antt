@@ -6,4 +6,4 @@ use Rattle.sas_reader.proofs.Walking.{behind}
 use Rattle.sas_reader.proofs.conditions.read_so_many_groups.Given as goal
 
 abbrev pub invariant-loop-i : goal.invariant-loop-i
-invariant-loop-i l = behind l.groups.items (walk (times (l.count - l._i) (group l.shapes)) l.cursor) ≡ walk (times l.count (group l.shapes)) l.fn.cursor
+invariant-loop-i l = behind l.groups.items (walk (times (l.count - l._i) (group l.variables)) l.cursor) ≡ walk (times l.count (group l.variables)) l.fn.cursor

@@ -6,4 +6,4 @@ use Rattle.sas_reader.proofs.Walking.{behind}
 use Rattle.sas_reader.proofs.operators.read_so_many_operators.Given as goal
 
 abbrev pub invariant-loop-i : goal.invariant-loop-i
-invariant-loop-i l = behind l.operators.items (walk (times (l.count - l._i) (operator l.metric l.shapes)) l.cursor) ≡ walk (times l.count (operator l.metric l.shapes)) l.fn.cursor
+invariant-loop-i l = behind l.operators.items (walk (times (l.count - l._i) (operator l.metric l.variables)) l.cursor) ≡ walk (times l.count (operator l.metric l.variables)) l.fn.cursor

@@ -6,4 +6,4 @@ use Rattle.sas_reader.proofs.Walking.{behind}
 use Rattle.sas_reader.proofs.operators.read_so_many_rules.Given as goal
 
 abbrev pub invariant-loop-i : goal.invariant-loop-i
-invariant-loop-i l = behind l.rules.items (walk (times (l.count - l._i) (rule l.shapes l.init)) l.cursor) ≡ walk (times l.count (rule l.shapes l.init)) l.fn.cursor
+invariant-loop-i l = behind l.rules.items (walk (times (l.count - l._i) (rule l.variables l.init)) l.cursor) ≡ walk (times l.count (rule l.variables l.init)) l.fn.cursor

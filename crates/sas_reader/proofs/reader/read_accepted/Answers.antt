@@ -1,5 +1,5 @@
 use Rattle.std.proofs.Common.{◌≡◌}
-use Rattle.sas_reader.proofs.Accepting.{accepted_text}
+use Rattle.sas_reader.proofs.Sound.{accepted_text}
 use Rattle.sas_reader.proofs.reader.read_accepted.Goals as goal
 
 pub accepted-requires : goal.accepted-requires

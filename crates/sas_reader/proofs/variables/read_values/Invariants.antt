@@ -5,5 +5,5 @@ use Rattle.sas_reader.specs.Walks.{walk}
 use Rattle.sas_reader.proofs.Walking.{behind}
 use Rattle.sas_reader.proofs.variables.read_values.Given as goal
 
-abbrev pub invariant-loop-shape : goal.invariant-loop-shape
-invariant-loop-shape l = behind l.values.items (walk (each initial (drop l.shape-index l.shapes)) l.cursor) ≡ walk (each initial l.shapes) l.fn.cursor
+abbrev pub invariant-loop-variable : goal.invariant-loop-variable
+invariant-loop-variable l = behind l.values.items (walk (each initial (drop l.variable-index l.variables)) l.cursor) ≡ walk (each initial l.variables) l.fn.cursor
