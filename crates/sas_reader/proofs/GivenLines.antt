@@ -1,5 +1,5 @@
 -- What holds of what lines give.
-use Rattle.std.proofs.Common.{◌≡◌, ◌∙◌, sym, ap, refl, ℕ, ◌+◌, ◌≤◌, List, length, Bool, true, false, ◌&&◌, nat_eq, nat_lt, nat_le, map, Result, Ok, Err, Option, Some, None, arith}
+use Rattle.std.proofs.Common.{◌≡◌, ◌∙◌, ap, refl, ℕ, ◌+◌, ◌≤◌, List, length, Bool, true, false, ◌&&◌, nat_eq, nat_lt, nat_le, map, Result, Ok, Err, Option, Some, None, arith}
 use Rattle.std.specs.Prelude.{option_to_list, not}
 use Rattle.std.specs.List.{list_all}
 use Rattle.std.proofs.lemmas.Bool.Decides.{nat_tests}

@@ -1,7 +1,7 @@
 -- What is known of the variables of a text, and of pairs that are facts.
 use Rattle.std.proofs.Common.{◌≡◌, refl, ℕ, zero, suc, ◌+◌, ◌<◌, ◌≤◌, ◌++◌, ◌∷◌, [], List, length, map, take, get_or, Bool, true, false, ◌&&◌, nat_lt, Option, Some, None, arith}
 use Rattle.std.specs.Prelude.{IfOk, Result, Ok, Err}
-use Rattle.std.proofs.Common.{sym, ap, ◌∙◌}
+use Rattle.std.proofs.Common.{ap, ◌∙◌}
 use Rattle.std.proofs.lemmas.List.{take_more, take_all, map-append}
 use Rattle.std.proofs.lemmas.List.Folds.{list_all_at, list_all-append, list_all-map}
 use Rattle.lama_num.specs.Gives.{Gives}

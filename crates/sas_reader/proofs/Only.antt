@@ -1,5 +1,5 @@
 -- What holds of all that a format gives.
-use Rattle.std.proofs.Common.{◌≡◌, ◌∙◌, sym, ap, refl, subst, ℕ, zero, suc, ◌≤◌, ◌∷◌, [], List, length, Bool, true, Result, Ok, Err}
+use Rattle.std.proofs.Common.{◌≡◌, ◌∙◌, ap, refl, subst, ℕ, zero, suc, List, length, Bool, true, Result, Ok, Err}
 use Rattle.std.specs.List.{list_all}
 use Rattle.lama_num.specs.Gives.{◌>>=◌}
 use Rattle.sas_task.specs.Tests.{and_true}
@@ -7,7 +7,6 @@ use Rattle.text_lines.specs.Lines.{Place}
 use Rattle.sas_reader.specs.Formats.{Format, Done, Line, Kind, Value, value_of, times}
 use Rattle.sas_reader.specs.Formats as formats
 use Rattle.sas_reader.specs.Walks.{walk, next, next_by, first_line}
-use Rattle.sas_reader.specs.declared.faults.SasFault.{SasFault}
 
 pub ok_same : {A F : Type 0} (x y : A) → ◌≡◌ {A = Result A F} (Ok x) (Ok y) → x ≡ y
 ok_same x y e = cc

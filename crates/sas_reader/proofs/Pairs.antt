@@ -10,7 +10,7 @@ abbrev pub before : List Pair → Option (List Pair × List (List ℕ)) → Opti
 before front read = option_map (λ r. (front ++ r.0, r.1)) read
 
 -- one more pair
-pairs_more : (front : List Pair) (n i : ℕ) (words rest : List (List ℕ)) (pair : Pair) → i < n → pair_at words ≡ Some (pair, rest) →
+pub pairs_more : (front : List Pair) (n i : ℕ) (words rest : List (List ℕ)) (pair : Pair) → i < n → pair_at words ≡ Some (pair, rest) →
     before (front ++ pair ∷ []) (pairs_at (n - (i + 1)) rest) ≡ before front (pairs_at (n - i) words)
 unfolding pairs_at
 pairs_more front n i words rest pair lt is = let one : n - i ≡ suc (n - (i + 1)) = omega arith in rw (one, is) (next_one (pairs_at (n - (i + 1)) rest))
@@ -20,12 +20,12 @@ pairs_more front n i words rest pair lt is = let one : n - i ≡ suc (n - (i + 1
     next_one (Some r) = simp append_assoc
 
 -- no pair
-pairs_stop : (front : List Pair) (n i : ℕ) (words : List (List ℕ)) → i < n → pair_at words ≡ None → before front (pairs_at (n - i) words) ≡ None
+pub pairs_stop : (front : List Pair) (n i : ℕ) (words : List (List ℕ)) → i < n → pair_at words ≡ None → before front (pairs_at (n - i) words) ≡ None
 unfolding pairs_at
 pairs_stop front n i words lt is = let one : n - i ≡ suc (n - (i + 1)) = omega arith in rw (one, is) refl
 
 -- none is left
-pairs_none : (front : List Pair) (n i : ℕ) (words : List (List ℕ)) → n ≤ i → before front (pairs_at (n - i) words) ≡ Some (front, words)
+pub pairs_none : (front : List Pair) (n i : ℕ) (words : List (List ℕ)) → n ≤ i → before front (pairs_at (n - i) words) ≡ Some (front, words)
 unfolding pairs_at
 pairs_none front n i words le = let none : n - i ≡ 0 = omega arith in rw (none, append-nil front) refl
 

@@ -1,11 +1,11 @@
 -- Variables, initial values and effects that were read, before those to come.
-use Rattle.std.proofs.Common.{◌≡◌, ◌∙◌, sym, ap, refl, ℕ, zero, suc, ◌+◌, ◌-◌, ◌<◌, ◌≤◌, ◌++◌, ◌∷◌, [], List, length, map, drop, get_or, add-one, Result, Ok, Err, Option, Some, None, append_assoc, arith}
+use Rattle.std.proofs.Common.{◌≡◌, ◌∙◌, refl, ℕ, suc, ◌+◌, ◌-◌, ◌<◌, ◌≤◌, ◌++◌, ◌∷◌, [], List, length, drop, get_or, Ok, Err, Option, append_assoc, arith}
 use Rattle.std.specs.Prelude.{option_to_list}
 use Rattle.std.proofs.lemmas.List.{append-nil}
 use Rattle.lama_num.specs.Gives.{◌>>=◌, Fails}
 use Rattle.text_lines.specs.Lines.{Place}
 use Rattle.sas_reader.specs.Formats.{Below, EffectIn, line, times, each}
-use Rattle.sas_reader.specs.TaskText.{variable, variables_from, initial, preconditions}
+use Rattle.sas_reader.specs.TaskText.{variable, variables_from, initial}
 use Rattle.sas_reader.specs.Walks.{walk, next, fault_of, changed}
 use Rattle.sas_reader.proofs.Walking.{Walked, bind_same, walk_on, behind, behind_cons, times_suc, row_more, row_fail}
 use Rattle.sas_task.specs.declared.contents.Fact.{Fact}

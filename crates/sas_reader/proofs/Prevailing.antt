@@ -1,7 +1,7 @@
 -- There are no more prevail conditions than were listed before the effects.
-use Rattle.std.proofs.Common.{◌≡◌, ◌∙◌, sym, ap, refl, ℕ, zero, suc, ◌+◌, ◌-◌, ◌<◌, ◌≤◌, ◌++◌, ◌∷◌, [], List, length, take, drop, Bool, true, false, ◌&&◌, nat_eq, map, filter, Option, Some, None, arith, length-append, length-drop}
-use Rattle.std.specs.Prelude.{option_to_list, not, ◌||◌, if◌then◌else◌}
-use Rattle.std.specs.List.{list_all, list_any}
+use Rattle.std.proofs.Common.{◌≡◌, ◌∙◌, sym, ap, refl, ℕ, ◌+◌, ◌-◌, ◌<◌, ◌≤◌, ◌++◌, ◌∷◌, [], List, length, take, drop, Bool, true, false, nat_eq, map, filter, Option, Some, None, arith, length-append, length-drop}
+use Rattle.std.specs.Prelude.{option_to_list, not, if◌then◌else◌}
+use Rattle.std.specs.List.{list_all}
 use Rattle.std.proofs.lemmas.List.{take-append-drop}
 use Rattle.std.proofs.lemmas.List.Elements.{filter-append}
 use Rattle.std.proofs.lemmas.List.Folds.{list_all-append}

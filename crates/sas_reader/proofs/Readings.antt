@@ -1,14 +1,12 @@
 -- What lines give is their text or their first fault, and nothing else is.
-use Rattle.std.proofs.Common.{◌≡◌, ◌∙◌, sym, ap, refl, ◌++◌, ◌∷◌, [], List, length, Result, Ok, Err, Option, Some, None, ℕ, zero, suc, ◌+◌, ◌<◌, ◌≤◌, inl, inr, subst, Bool, true, false, nat_eq, nat_le, arith}
-use Rattle.std.specs.Prelude.{option_and_then, if◌then◌else◌}
-use Rattle.std.specs.Result.{result_ok}
+use Rattle.std.proofs.Common.{◌≡◌, ◌∙◌, sym, ap, refl, ◌++◌, ◌∷◌, [], List, length, Result, Ok, Err, Option, Some, None, ℕ, suc, ◌+◌, ◌<◌, inl, inr, subst, true, false, nat_eq, nat_le, arith}
 use Rattle.std.proofs.lemmas.Bool.Decides.{nat_tests}
 use Rattle.std.specs.Prelude.{IfOk}
 use Rattle.lama_num.specs.Gives.{◌>>=◌, Gives}
-use Rattle.text_lines.specs.Lines.{Place, lines_of}
+use Rattle.text_lines.specs.Lines.{lines_of}
 use Rattle.sas_reader.specs.Reading.{most_bytes}
-use Rattle.sas_reader.specs.Formats.{Format, Done, Line, Kind, Value, value_of}
-use Rattle.sas_reader.specs.Walks.{walk, next, next_by, trailing, whole, parts_in, parts_of, task_of, fault_of}
+use Rattle.sas_reader.specs.Formats.{Format, Done, Line, value_of}
+use Rattle.sas_reader.specs.Walks.{walk, next_by, whole, parts_in, parts_of, task_of, fault_of}
 use Rattle.sas_reader.specs.TaskText.{task}
 use Rattle.sas_reader.specs.FirstFault.{after, Refuses, Faults, IsTextOf, IsFirstFaultOf, Reads, ExactlyOne}
 use Rattle.sas_task.specs.declared.contents.Parts.{Parts}
@@ -19,7 +17,6 @@ use Rattle.sas_reader.specs.declared.faults.SasFault.TheVariants.{CutShort, Trai
 use Rattle.sas_task.specs.Refusals.{brought}
 use Rattle.sas_task.specs.Tests.{le-test, test-le}
 use Rattle.sas_task.specs.declared.refusals.What.TheVariants.{Bytes}
-use Rattle.sas_reader.proofs.Only.{ok_same}
 
 -- the whole of lines, the first of which has that number
 abbrev pub reading : {A : Type 0} → Format A → ℕ → List (List ℕ) → Result A SasFault

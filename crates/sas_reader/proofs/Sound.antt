@@ -1,5 +1,5 @@
 -- What a text gives is refused by nothing.
-use Rattle.std.proofs.Common.{◌≡◌, ◌∙◌, sym, ap, refl, subst, ℕ, zero, suc, ◌+◌, ◌≤◌, ◌++◌, ◌∷◌, [], List, length, Bool, true, false, ◌&&◌, ◌||◌, nat_eq, nat_lt, nat_le, map, Result, Ok, Err, Option, Some, None, arith}
+use Rattle.std.proofs.Common.{◌≡◌, ◌∙◌, ap, refl, ℕ, zero, suc, ◌+◌, ◌≤◌, ◌++◌, ◌∷◌, [], List, length, Bool, true, false, ◌&&◌, ◌||◌, nat_eq, nat_lt, nat_le, map, Result, Ok, Err, Option, None, arith}
 use Rattle.std.specs.Prelude.{option_to_list, if◌then◌else◌}
 use Rattle.std.specs.List.{list_all, zip}
 use Rattle.std.proofs.lemmas.Bool.Decides.{nat_tests}
@@ -10,7 +10,7 @@ use Rattle.lama_num.specs.Lists.{both}
 use Rattle.sas_task.specs.Limits.{most_variables, most_facts, most_listed, most_operators, most_rules, highest_cost}
 use Rattle.sas_task.specs.Tests.{and_true, all-one, le-test, test-le}
 use Rattle.sas_task.specs.WellFormed.{is_short, is_few, is_layered, is_variable, is_fact, are_facts, is_effect, starts, fact_count}
-use Rattle.sas_task.specs.Order.{distinct, prevail, has_few_prevail}
+use Rattle.sas_task.specs.Order.{distinct, prevail}
 use Rattle.sas_task.specs.Admissible.{is_admissible_operator, is_admissible_rule, IsAdmissible}
 use Rattle.sas_task.specs.Admission.{admitted}
 use Rattle.sas_task.specs.Refusals.{refusal_of}
@@ -18,7 +18,6 @@ use Rattle.sas_task.specs.declared.contents.Fact.{Fact}
 use Rattle.sas_task.specs.declared.contents.Variable.{Variable}
 use Rattle.sas_task.specs.declared.contents.Effect.{Effect}
 use Rattle.sas_task.specs.declared.contents.Operator.{Operator}
-use Rattle.sas_task.specs.declared.contents.Rule.{Rule}
 use Rattle.sas_task.specs.declared.contents.Parts.{Parts}
 use Rattle.sas_task.specs.declared.refusals.What.{What}
 use Rattle.sas_task.specs.declared.refusals.What.TheVariants.{Bytes, Variables, Groups, GroupFacts, Goals, Operators, Conditions, Effects, Rules, Cost}

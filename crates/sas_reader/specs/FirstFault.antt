@@ -3,7 +3,7 @@ use Rattle.std.specs.Prelude.{◌≡◌, ℕ, ◌+◌, ◌<◌, ◌≤◌, List,
 use Rattle.std.specs.Result.{result_ok}
 use Rattle.text_lines.specs.Lines.{lines_of}
 use Rattle.sas_reader.specs.Reading.{most_bytes}
-use Rattle.sas_reader.specs.Formats.{Format, Done, Line, Kind, Value, value_of}
+use Rattle.sas_reader.specs.Formats.{Format, Done, Line, value_of}
 use Rattle.sas_reader.specs.TaskText.{task as the_task}
 use Rattle.sas_task.specs.Refusals.{brought}
 use Rattle.sas_task.specs.declared.contents.Parts.{Parts}

@@ -1,6 +1,6 @@
 -- The text of a planning task.
-use Rattle.std.specs.Prelude.{◌≡◌, ℕ, zero, suc, ◌+◌, List, [], ◌∷◌, ◌++◌, length, Bool, true, false, if◌then◌else◌, map, Option, Some, None, option_to_list}
-use Rattle.sas_reader.specs.Formats.{Format, Done, Line, ◌>>=◌, Kind, Begin, End, Version, ZeroOrOne, Name, Count, Layer, Range, Below, FactIn, EffectIn, HeadIn, line, times, each}
+use Rattle.std.specs.Prelude.{ℕ, zero, suc, ◌+◌, List, [], ◌∷◌, ◌++◌, length, Bool, if◌then◌else◌, map, Option, option_to_list}
+use Rattle.sas_reader.specs.Formats.{Format, Done, ◌>>=◌, Begin, End, Version, ZeroOrOne, Name, Count, Layer, Range, Below, FactIn, EffectIn, HeadIn, line, times, each}
 use Rattle.sas_task.specs.Limits.{most_variables, most_listed, most_operators, most_rules, highest_cost}
 use Rattle.sas_task.specs.declared.contents.Fact.{Fact}
 use Rattle.sas_task.specs.declared.contents.Variable.{Variable}

@@ -1,5 +1,5 @@
 -- Walks over a format: what a text gives, or its first fault.
-use Rattle.std.specs.Prelude.{◌≡◌, ℕ, ◌+◌, List, [], ◌∷◌, ◌++◌, map, length, nat_eq, nat_le, if◌then◌else◌, Option, Some, None, Result, Ok, Err}
+use Rattle.std.specs.Prelude.{ℕ, ◌+◌, List, [], ◌∷◌, ◌++◌, map, length, nat_eq, nat_le, if◌then◌else◌, Option, Some, None, Result, Ok, Err}
 use Rattle.lama_num.specs.Gives.{◌>>=◌}
 use Rattle.text_lines.specs.Lines.{Place, lines_of}
 use Rattle.sas_reader.specs.Reading.{most_bytes}

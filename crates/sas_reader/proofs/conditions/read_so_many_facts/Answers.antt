@@ -1,4 +1,4 @@
-use Rattle.std.proofs.Common.{◌≡◌, arith}
+use Rattle.std.proofs.Common.{arith}
 use Rattle.sas_reader.specs.Formats.{FactIn}
 use Rattle.sas_reader.proofs.Walking.{lines_fail}
 use Rattle.sas_reader.proofs.conditions.read_so_many_facts.Goals as goal

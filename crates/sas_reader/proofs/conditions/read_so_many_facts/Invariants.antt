@@ -1,6 +1,5 @@
 use Rattle.std.proofs.Common.{◌≡◌, ◌-◌}
 use Rattle.sas_reader.specs.Formats.{FactIn, line, times}
-use Rattle.sas_reader.specs.TaskText.{group, operator, rule}
 use Rattle.sas_reader.specs.Walks.{walk}
 use Rattle.sas_reader.proofs.Walking.{behind}
 use Rattle.sas_reader.proofs.conditions.read_so_many_facts.Given as goal

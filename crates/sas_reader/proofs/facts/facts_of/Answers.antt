@@ -1,4 +1,3 @@
-use Rattle.std.proofs.Common.{arith}
 use Rattle.sas_reader.proofs.Known.{facts_more, facts_stop, facts_end}
 use Rattle.sas_reader.specs.declared.numbers.Pair.{Pair}
 use Rattle.sas_reader.proofs.facts.facts_of.Goals as goal

@@ -1,4 +1,4 @@
-use Rattle.std.proofs.Common.{◌≡◌, arith}
+use Rattle.std.proofs.Common.{arith}
 use Rattle.sas_reader.proofs.Parts.{changes_more, changes_fail}
 use Rattle.sas_reader.proofs.operators.read_effects.Goals as goal
 

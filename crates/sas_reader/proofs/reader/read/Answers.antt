@@ -1,4 +1,3 @@
-use Rattle.std.proofs.Common.{◌≡◌}
 use Rattle.sas_reader.proofs.Readings.{task_given, refusal_given, one_reading}
 use Rattle.sas_reader.proofs.reader.read.Goals as goal
 

@@ -1,4 +1,3 @@
-use Rattle.std.proofs.Common.{◌≡◌}
 use Rattle.sas_reader.proofs.Sound.{accepted_text}
 use Rattle.sas_reader.proofs.reader.read_accepted.Goals as goal
 

@@ -1,4 +1,4 @@
-use Rattle.std.proofs.Common.{◌≡◌, arith}
+use Rattle.std.proofs.Common.{arith}
 use Rattle.sas_reader.specs.Formats.{Name}
 use Rattle.sas_reader.proofs.Walking.{lines_fail}
 use Rattle.sas_reader.proofs.variables.read_names.Goals as goal

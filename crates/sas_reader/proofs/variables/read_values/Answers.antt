@@ -1,6 +1,5 @@
-use Rattle.std.proofs.Common.{◌≡◌, ap, length, arith}
+use Rattle.std.proofs.Common.{arith}
 use Rattle.sas_reader.proofs.Parts.{values_more, values_fail}
-use Rattle.sas_reader.proofs.Known.{values_few}
 use Rattle.sas_reader.proofs.variables.read_values.Goals as goal
 
 pub returns-in-Err : goal.returns-in-Err

@@ -1,4 +1,3 @@
-use Rattle.std.proofs.Common.{◌≡◌}
 use Rattle.sas_reader.proofs.Known.{if_given}
 use Rattle.sas_reader.proofs.Sound.{are_variables}
 use Rattle.sas_reader.specs.Reading.{AreVariables}
