@@ -1,4 +1,5 @@
 pub mod Above
+pub mod Accepting
 pub mod Answering
 pub mod Arranging
 pub mod FactLists

@@ -7,6 +7,7 @@ use Rattle.std.proofs.lemmas.List.Elements.{filter-append, filter_agree}
 use Rattle.std.proofs.lemmas.List.Folds.{list_all-append}
 use Rattle.std.proofs.lemmas.Bool.Decides.{nat_tests}
 use Rattle.lama_num.specs.Lists.{both}
+use Rattle.sas_task.specs.Limits.{most_listed}
 use Rattle.sas_task.specs.Facts.{same_fact, has_fact}
 use Rattle.sas_task.specs.Order.{distinct, on_variable, effects_on, is_prevail, prevail, standing, arranged, ordered, in_order, prevail_count, has_few_prevail, has_one_value_each, IsInOrder}
 use Rattle.sas_task.specs.declared.contents.Fact.{Fact}
@@ -274,12 +275,12 @@ is_in_order operator =
           ap (λ ys. arranged ys operator.effects) (distinct-apart xs apart_after) ∙ same_order_again once operator.effects apart single);
     }
 
-pub few_prevail : (operator : Operator) → prevail_count operator ≤ 1048576 → has_few_prevail (in_order operator) ≡ true
+pub few_prevail : (operator : Operator) → prevail_count operator ≤ most_listed → has_few_prevail (in_order operator) ≡ true
 few_prevail operator few =
     let same = prevail-count-ordered operator.pre operator.effects in
     test (prevail_count (in_order operator)) (omega (arith, same, few))
   where
-    test : (n : ℕ) → n ≤ 1048576 → nat_le n 1048576 ≡ true
+    test : (n : ℕ) → n ≤ most_listed → nat_le n most_listed ≡ true
     test n le = grind (arith, nat_tests)
 
 -- and not more preconditions than prevail conditions and effects

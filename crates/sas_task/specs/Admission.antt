@@ -1,22 +1,104 @@
 -- Laws of parts that nothing refuses.
-use Rattle.std.specs.Prelude.{◌≡◌, ℕ, ◌+◌, ◌≤◌, List, [], ◌∷◌, ◌++◌, length, Bool, true, false, ◌&&◌, not, nat_eq, nat_lt, nat_le, map, filter, filter_map, flat_map, Option, Some, None, is_some, if◌then◌else◌}
+use Rattle.std.specs.Prelude.{◌≡◌, ℕ, ◌+◌, ◌≤◌, List, [], ◌∷◌, ◌++◌, length, Bool, true, false, ◌&&◌, not, nat_eq, nat_lt, nat_le, map, filter, filter_map, flat_map, Option, Some, None, is_some, position, option_map, if◌then◌else◌}
 use Rattle.std.proofs.Common.{arith, refl, sym, ap, ◌∙◌}
-use Rattle.std.specs.List.{list_all, cons_option}
+use Rattle.std.specs.List.{list_all, cons_option, position_from}
+use Rattle.std.proofs.lemmas.Bool.Decides.{nat_tests}
+use Rattle.std.proofs.lemmas.Iterator.Adapters.{position_from-zero}
 use Rattle.lama_num.specs.Lists.{both}
 use Rattle.sas_task.specs.Limits.{most_variables, most_facts, most_operators, most_rules, most_listed, highest_layer, highest_cost, longest_name}
 use Rattle.sas_task.specs.WellFormed.{IsWellFormed, is_operator, is_rule, is_default, is_layered_rule, has_few_conditions, is_derived, is_short, is_few, is_layered, is_variable, is_fact, are_facts, is_effect, starts, fact_count}
 use Rattle.sas_task.specs.Admissible.{is_admissible_operator, is_admissible_rule, IsAdmissible}
 use Rattle.sas_task.specs.Costs.{is_unit_cost}
 use Rattle.sas_task.specs.Order.{in_order, prevail_count, has_few_prevail}
-use Rattle.sas_task.specs.Refusals.{conditions_of, names_of, is_wide, is_sound_effect, is_sound_operator, is_sound_rule, is_sound, is_good_rule, refusal_of, brought}
-use Rattle.sas_task.specs.Acceptance.{within, IsAccepted, accepted}
+use Rattle.sas_task.specs.Refusals.{above, too_large, condition_counts, name_lengths, first_cause, conditions_of, names_of, is_wide, is_sound_effect, is_sound_operator, is_sound_rule, is_sound, is_good_rule, refusal_of, brought}
 use Rattle.sas_task.specs.declared.contents.Fact.{Fact}
 use Rattle.sas_task.specs.declared.contents.Variable.{Variable}
 use Rattle.sas_task.specs.declared.contents.Effect.{Effect}
 use Rattle.sas_task.specs.declared.contents.Operator.{Operator}
 use Rattle.sas_task.specs.declared.contents.Rule.{Rule}
 use Rattle.sas_task.specs.declared.contents.Parts.{Parts}
-use Rattle.sas_task.specs.Tests.{and_true, test-le, all-one, all-two, within-one, flat_map-within, map-within, within-both}
+use Rattle.sas_task.specs.declared.refusals.What.{What}
+use Rattle.sas_task.specs.declared.refusals.What.TheVariants.{Variables, Range, Layer, Facts, Groups, GroupFacts, Goals, Operators, Conditions, Effects, Rules, Cost, Name}
+use Rattle.sas_task.specs.declared.refusals.TaskError.{TaskError}
+use Rattle.sas_task.specs.declared.refusals.TaskError.TheVariants.{TooLarge, WideDerived, BadFact, BadCost, BadRule}
+use Rattle.sas_task.specs.Tests.{within, not-not, all-same, and_true, test-le, all-one, all-two, within-one, flat_map-within, map-within, within-both}
+
+-- the tests of `check`, one by one
+pub record IsAccepted (parts : Parts) : Type 0 where
+  pub variables : within most_variables (length parts.variables ∷ []) ≡ true
+  pub ranges : within most_listed (map (λ v. length v.values) parts.variables) ≡ true
+  pub layers : within highest_layer (filter_map (λ v. v.layer) parts.variables) ≡ true
+  pub facts : within most_facts (fact_count parts.variables ∷ []) ≡ true
+  pub groups : within most_listed (length parts.groups ∷ []) ≡ true
+  pub group_facts : within most_listed (map (λ group. length group) parts.groups) ≡ true
+  pub goals : within most_listed (length parts.goal ∷ []) ≡ true
+  pub operators : within most_operators (length parts.operators ∷ []) ≡ true
+  pub conditions : within most_listed (condition_counts parts) ≡ true
+  pub effects : within most_listed (map (λ o. length o.effects) parts.operators) ≡ true
+  pub rules : within most_rules (length parts.rules ∷ []) ≡ true
+  pub costs : within highest_cost (map (λ o. o.cost) parts.operators) ≡ true
+  pub names : within longest_name (name_lengths parts) ≡ true
+  pub two_values : list_all (λ v. not (is_wide v)) parts.variables ≡ true
+  pub sound : is_sound parts ≡ true
+  pub unit_costs : (not parts.metric && not (is_unit_cost parts)) ≡ false
+  pub good_rules : list_all (is_good_rule parts.variables parts.init) parts.rules ≡ true
+
+above-within : (most : ℕ) (counts : List ℕ) → within most counts ≡ true → above most counts ≡ None
+above-within most [] all = refl
+above-within most (n ∷ ns) all =
+    let parts = both (nat_le n most) (within most ns) all in
+    let here : nat_le n most ≡ true = parts.0 in
+    let low : nat_lt most n ≡ false = grind (arith, nat_tests, here) in
+    rw low (above-within most ns parts.1)
+
+position-all : {X : Type 0} (p : X → Bool) (i : ℕ) (xs : List X) → list_all (λ x. not (p x)) xs ≡ true → position_from p i xs ≡ None
+position-all p i [] all = refl
+position-all p i (x ∷ xs) all =
+    let parts = both (not (p x)) (list_all (λ x. not (p x)) xs) all in
+    elim (p x) as (λ b. p x ≡ b → position_from p i (x ∷ xs) ≡ None) [
+      | true ↦ λ is. let k : false ≡ true = rw is at parts.0 in cc
+      | false ↦ λ is. rw is (position-all p (i + 1) xs parts.1)
+    ] refl
+
+first_cause-cons : (o : Option TaskError) (os : List (Option TaskError)) → o ≡ None → first_cause os ≡ None → first_cause (o ∷ os) ≡ None
+first_cause-cons o os none rest = rw none rest
+
+large-none : (what : What) (most : ℕ) (counts : List ℕ) → within most counts ≡ true → too_large what most counts ≡ None
+large-none what most counts all = ap (option_map (λ count. TooLarge what count)) (above-within most counts all)
+
+abbrev pub bad : (parts : Parts) → Rule → Bool
+bad parts rule = not (is_good_rule parts.variables parts.init rule)
+
+sound_none : (b : Bool) → b ≡ true → (if b then None else Some BadFact) ≡ None
+sound_none true is = refl
+sound_none false is = let k : false ≡ true = is in cc
+
+cost_none : (b : Bool) → b ≡ false → (if b then Some BadCost else None) ≡ None
+cost_none true is = let k : true ≡ false = is in cc
+cost_none false is = refl
+
+-- parts that pass each test are accepted
+accepted : (parts : Parts) → IsAccepted parts → refusal_of parts ≡ None
+unfolding refusal_of
+accepted parts is =
+    first_cause-cons _ _ (large-none Variables most_variables (length parts.variables ∷ []) is.variables)
+    (first_cause-cons _ _ (large-none Range most_listed (map (λ v. length v.values) parts.variables) is.ranges)
+    (first_cause-cons _ _ (large-none Layer highest_layer (filter_map (λ v. v.layer) parts.variables) is.layers)
+    (first_cause-cons _ _ (large-none Facts most_facts (fact_count parts.variables ∷ []) is.facts)
+    (first_cause-cons _ _ (large-none Groups most_listed (length parts.groups ∷ []) is.groups)
+    (first_cause-cons _ _ (large-none GroupFacts most_listed (map (λ group. length group) parts.groups) is.group_facts)
+    (first_cause-cons _ _ (large-none Goals most_listed (length parts.goal ∷ []) is.goals)
+    (first_cause-cons _ _ (large-none Operators most_operators (length parts.operators ∷ []) is.operators)
+    (first_cause-cons _ _ (large-none Conditions most_listed (condition_counts parts) is.conditions)
+    (first_cause-cons _ _ (large-none Effects most_listed (map (λ o. length o.effects) parts.operators) is.effects)
+    (first_cause-cons _ _ (large-none Rules most_rules (length parts.rules ∷ []) is.rules)
+    (first_cause-cons _ _ (large-none Cost highest_cost (map (λ o. o.cost) parts.operators) is.costs)
+    (first_cause-cons _ _ (large-none Name longest_name (name_lengths parts) is.names)
+    (first_cause-cons _ _ (ap (option_map (λ var. WideDerived var)) (position_from-zero is_wide parts.variables ∙ position-all is_wide 0 parts.variables is.two_values))
+    (first_cause-cons _ _ (sound_none (is_sound parts) is.sound)
+    (first_cause-cons _ _ (cost_none (not parts.metric && not (is_unit_cost parts)) is.unit_costs)
+    (first_cause-cons _ _ (ap (option_map (λ rule. BadRule rule)) (position_from-zero (bad parts) parts.rules ∙ position-all (bad parts) 0 parts.rules (all-same (λ r. not (bad parts r)) (is_good_rule parts.variables parts.init) parts.rules (λ r. not-not (is_good_rule parts.variables parts.init r)) ∙ is.good_rules)))
+    refl))))))))))))))))
 
 -- variables
 

@@ -1,4 +1,3 @@
-pub mod Acceptance
 pub mod Admissible
 pub mod Admission
 pub mod Costs

@@ -1,11 +1,22 @@
 -- Laws of tests of lists and of counts within a limit.
-use Rattle.std.specs.Prelude.{◌≡◌, ℕ, ◌≤◌, List, [], ◌∷◌, ◌++◌, Bool, true, false, ◌&&◌, nat_le, map, flat_map}
+use Rattle.std.specs.Prelude.{◌≡◌, ℕ, ◌≤◌, List, [], ◌∷◌, ◌++◌, Bool, true, false, ◌&&◌, not, nat_le, map, flat_map}
 use Rattle.std.proofs.Common.{arith, refl, sym, ap, ◌∙◌}
 use Rattle.std.specs.List.{list_all}
 use Rattle.std.proofs.lemmas.List.Folds.{list_all-append, list_all-map}
 use Rattle.std.proofs.lemmas.Bool.Decides.{nat_tests}
 use Rattle.lama_num.specs.Lists.{both}
-use Rattle.sas_task.specs.Acceptance.{within}
+
+-- no count is above the limit
+abbrev pub within : ℕ → List ℕ → Bool
+within most counts = list_all (λ count. nat_le count most) counts
+
+pub not-not : (b : Bool) → not (not b) ≡ b
+not-not true = refl
+not-not false = refl
+
+pub all-same : {X : Type 0} (p q : X → Bool) (xs : List X) → ((x : X) → p x ≡ q x) → list_all p xs ≡ list_all q xs
+all-same p q [] same = refl
+all-same p q (x ∷ xs) same = ap (λ b. b && list_all p xs) (same x) ∙ ap (λ b. q x && b) (all-same p q xs same)
 
 pub le-test : (n most : ℕ) → nat_le n most ≡ true → n ≤ most
 le-test n most is = grind (arith, nat_tests, is)

@@ -37,7 +37,8 @@ fn preconditions_are_ordered(rt: HostRuntime) -> Result<(), Fail> {
     );
     assert!(rt; ordered(alloc, &[a, b], &[fact(0, 2)])?.as_slice() == [b, a].as_slice());
     assert!(rt;
-        ordered(alloc, &[b, a, c], &[fact(0, 2), fact(3, 2), fact(0, 2)])?.as_slice() == [b, c, a]
+        ordered(alloc, &[b, a, c], &[fact(0, 2), fact(3, 2), fact(0, 2)])?.as_slice()
+            == [b, c, a].as_slice()
     );
     Ok(())
 }

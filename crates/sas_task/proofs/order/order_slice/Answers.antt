@@ -1,5 +1,6 @@
 use Rattle.std.proofs.Common.{◌<◌, ◌∙◌, length, get_or, arith, ap}
 use Rattle.std.proofs.lemmas.List.{get_or_default}
+use Rattle.sas_task.specs.Limits.{most_listed}
 use Rattle.sas_task.specs.Order.{in_order}
 use Rattle.sas_task.specs.Refusals.{above, conditions_of}
 use Rattle.sas_task.proofs.Above.{flat_front, flat_behind}
@@ -13,7 +14,7 @@ returns-then-is_some-clause-count c =
     let d = c.operator-item.result in
     let lt : i < length xs = omega arith in
     let step = one_more_changed in_order xs c.loop-operator.operators i d c.loop-operator.invariant.order lt in
-    flat_front 1048576 conditions_of xs i (get_or xs i d) c.order_operator-count.result lt (get_or_default xs i d (get_or xs i d) lt) (c.order_operator-count.ensures.count ∙ ap (λ o. above 1048576 (conditions_of o)) step.element) (cc) c.loop-operator.invariant.count
+    flat_front most_listed conditions_of xs i (get_or xs i d) c.order_operator-count.result lt (get_or_default xs i d (get_or xs i d) lt) (c.order_operator-count.ensures.count ∙ ap (λ o. above most_listed (conditions_of o)) step.element) (cc) c.loop-operator.invariant.count
 
 pub loop-operator-preserved : goal.loop-operator-preserved
 loop-operator-preserved c =
@@ -24,5 +25,5 @@ loop-operator-preserved c =
     let step = one_more_changed in_order xs c.loop-operator.operators i d c.loop-operator.invariant.order lt in
     record {
       order = rw c.order_operator-count.ensures.order step.changed;
-      count = flat_behind 1048576 conditions_of xs i (get_or xs i d) c.order_operator-count.result lt (get_or_default xs i d (get_or xs i d) lt) (c.order_operator-count.ensures.count ∙ ap (λ o. above 1048576 (conditions_of o)) step.element) (cc) c.loop-operator.invariant.count;
+      count = flat_behind most_listed conditions_of xs i (get_or xs i d) c.order_operator-count.result lt (get_or_default xs i d (get_or xs i d) lt) (c.order_operator-count.ensures.count ∙ ap (λ o. above most_listed (conditions_of o)) step.element) (cc) c.loop-operator.invariant.count;
     }
