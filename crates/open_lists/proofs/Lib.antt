@@ -1,0 +1,5 @@
+pub mod Apart
+pub mod Best
+pub mod Order
+pub mod Places
+pub mod Rows

@@ -1,0 +1,4 @@
+pub mod Runs
+pub mod Queues
+pub mod Lists
+pub mod Items
