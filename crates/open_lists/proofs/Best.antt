@@ -1,5 +1,5 @@
 -- The list to take from, one more list at a time.
-use Rattle.std.proofs.Common.{◌≡◌, ◌≢◌, ℕ, ◌+◌, ◌<◌, ◌≤◌, List, length, slice_get, Option, None, Some, refl, sym, ap, ◌∙◌, subst, arith, inl, inr, IfNone, IfSome, ◌≤ℤ◌, ◌<ℤ◌}
+use Rattle.std.proofs.Common.{◌≡◌, ℕ, ◌+◌, ◌<◌, ◌≤◌, List, length, slice_get, Option, None, Some, sym, ap, ◌∙◌, subst, arith, inl, inr, IfNone, ◌≤ℤ◌, ◌<ℤ◌}
 use Rattle.std.specs.Prelude.{ℤ}
 use Rattle.std.proofs.lemmas.Bool.{cases_eq, cases_lt}
 use Rattle.std.proofs.lemmas.Int.{ints}

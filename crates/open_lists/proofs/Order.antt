@@ -1,10 +1,10 @@
 -- Queues by key stand for a list in order of insertion.
-use Rattle.std.proofs.Common.{Bool, ◌≡◌, ◌≢◌, ℕ, zero, suc, ◌<◌, ◌≤◌, List, [], ◌∷◌, ◌++◌, map, filter, nat_eq, slice_get, Option, Some, None, refl, sym, ap, ◌∙◌, subst, arith, inl, inr, true, false}
+use Rattle.std.proofs.Common.{◌≡◌, ◌≢◌, ℕ, zero, suc, ◌<◌, ◌≤◌, List, [], ◌∷◌, ◌++◌, nat_eq, slice_get, Some, refl, sym, ap, ◌∙◌, arith, inl, inr, false}
 use Rattle.std.specs.List.{remove}
 use Rattle.std.proofs.lemmas.Bool.{cases_eq, cases_lt, eq-eqb}
 use Rattle.std.proofs.lemmas.Bool.Decides.{eqb_tells}
 use Rattle.open_lists.specs.Runs.{entry_of, entries_of_visit}
-use Rattle.open_lists.specs.Items.{Item, has_key, entries_under, item_of, items_of_visit, IsOldestLeast}
+use Rattle.open_lists.specs.Items.{Item, entries_under, item_of, items_of_visit, IsOldestLeast}
 use Rattle.open_lists.specs.declared.entry.Entry.{Entry}
 
 not_equal : (a b : ℕ) → a ≢ b → nat_eq a b ≡ false

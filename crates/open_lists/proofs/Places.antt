@@ -1,22 +1,20 @@
 -- A list that is changed in its place among the lists.
-use Rattle.std.proofs.Common.{◌≡◌, ◌≢◌, ℕ, zero, suc, ◌+◌, ◌<◌, ◌≤◌, List, [], ◌∷◌, ◌++◌, length, set, take, get_or, inl, inr, slice_get, Option, None, Some, refl, ap, sym, ◌∙◌, arith, Bool, true, false, nat_eq, pos, ◌+ℤ◌, ◌-ℤ◌, Result, Ok, Err, OnOk, OnErr}
+use Rattle.std.proofs.Common.{◌≡◌, ◌≢◌, ℕ, zero, suc, ◌+◌, ◌<◌, ◌≤◌, List, [], ◌∷◌, ◌++◌, length, set, take, get_or, inl, inr, slice_get, Option, None, Some, refl, ap, sym, ◌∙◌, arith, Bool, true, false, nat_eq, pos, ◌+ℤ◌, ◌-ℤ◌}
 use Rattle.std.specs.Prelude.{if◌then◌else◌, ℤ}
-use Rattle.std.specs.List.{remove}
 use Rattle.std.proofs.lemmas.List.{length-set, length-append, length-take-le, take_more}
 use Rattle.std.proofs.lemmas.Option.{slice_get_within, slice_get_past}
 use Rattle.std.proofs.lemmas.Bool.{cases_eq, cases_lt}
 use Rattle.open_lists.specs.Runs.{entries_of_visit}
-use Rattle.open_lists.specs.Items.{Item, items_of_visit, item_of, entries_under, popped_item, IsOldestLeast}
+use Rattle.open_lists.specs.Items.{Item, items_of_visit}
 use Rattle.std.specs.Ordering.{nat_cmp}
 use Rattle.std.specs.Map.{lookup}
 use Rattle.std.specs.BTreeMap.{is_at}
 use Rattle.std.proofs.lemmas.Bool.Decides.{nat_tests}
-use Rattle.open_lists.specs.Queues.{queue_of, queue_at}
-use Rattle.open_lists.specs.Lists.{queue_for, entries_in_list, least_count_in, counter_in, preferred_in, list_count, queue, counter, Holds, TakesList, SameShape, SameLists, Inserts, Pops, Boosts}
+use Rattle.open_lists.specs.Queues.{queue_of}
+use Rattle.open_lists.specs.Lists.{queue_for, entries_in_list, least_count_in, counter_in, preferred_in, list_count, queue, counter, Holds, TakesList, SameShape, SameLists, Inserts, Pops}
 use Rattle.open_lists.specs.declared.lists.OpenLists.{OpenLists}
 use Rattle.open_lists.specs.declared.list.OpenList.{OpenList}
 use Rattle.open_lists.specs.declared.queues.Queues.{Queues}
-use Rattle.open_lists.specs.declared.entry.Popped.{Popped}
 use Rattle.open_lists.specs.declared.entry.Entry.{Entry}
 use Rattle.open_lists.proofs.Rows.{nil_of_length}
 use Rattle.open_lists.proofs.Order.{takes_oldest_least, puts_behind, some_entry}

@@ -1,5 +1,5 @@
 -- What the open lists hold, and what their calls do to that.
-use Rattle.std.specs.Prelude.{◌≡◌, ◌≢◌, ℕ, ◌<◌, Bool, true, false, if◌then◌else◌, List, [], ◌∷◌, ◌++◌, length, get_or, Option, Some, None, slice_get, ℤ, pos, ◌-ℤ◌, ◌+ℤ◌, ◌≤ℤ◌, ◌<ℤ◌}
+use Rattle.std.specs.Prelude.{◌≡◌, ◌≢◌, ℕ, ◌<◌, Bool, false, if◌then◌else◌, List, [], ◌++◌, length, get_or, Option, Some, None, slice_get, ℤ, pos, ◌-ℤ◌, ◌+ℤ◌, ◌≤ℤ◌, ◌<ℤ◌}
 use Rattle.std.specs.List.{remove}
 use Rattle.open_lists.specs.Queues.{queue_in}
 use Rattle.open_lists.specs.Items.{Item, entries_under, popped_item, IsOldestLeast}
@@ -45,6 +45,10 @@ counter lists k = counter_in (slice_get lists.lists.items k)
 abbrev pub is_preferred : OpenLists → ℕ → Bool
 is_preferred lists k = preferred_in (slice_get lists.lists.items k)
 
+-- by how much a boost lowers counters
+abbrev pub boost_of : OpenLists → ℕ
+boost_of lists = lists.boost
+
 -- List k holds these items, in order of insertion.
 pub record Holds (lists : OpenLists) (k : ℕ) (items : List Item) : Type 0 where
   pub queues : (key : ℕ) → queue lists k key ≡ entries_under items key
@@ -70,7 +74,7 @@ is_set flags k = get_or flags k false
 pub record SameShape (old new : OpenLists) : Type 0 where
   pub count : list_count new ≡ list_count old
   pub sorts : (k : ℕ) → is_preferred new k ≡ is_preferred old k
-  pub boost : new.boost ≡ old.boost
+  pub boost : boost_of new ≡ boost_of old
 
 -- Everything stays.
 pub record SameLists (old new : OpenLists) : Type 0 where
@@ -105,5 +109,5 @@ pub record Pops (old : OpenLists) (popped : Popped) (new : OpenLists) : Type 0 w
 -- The counters of the lists for preferred operators fall by the boost.
 pub record Boosts (old new : OpenLists) : Type 0 where
   pub items : (k : ℕ) (items : List Item) → Holds old k items → Holds new k items
-  pub counters : (k : ℕ) → counter new k ≡ (if is_preferred old k then counter old k -ℤ pos old.boost else counter old k)
+  pub counters : (k : ℕ) → counter new k ≡ (if is_preferred old k then counter old k -ℤ pos (boost_of old) else counter old k)
   pub shape : SameShape old new

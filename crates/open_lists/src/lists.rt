@@ -19,7 +19,7 @@ pub struct OpenLists {
 
 impl OpenLists {
     ghost use Rattle.open_lists.specs.Items.{Item, item_of, items_of_visit};
-    ghost use Rattle.open_lists.specs.Lists.{Holds, list_count, counter, is_preferred, is_set, Pops, Inserts, Boosts, SameLists};
+    ghost use Rattle.open_lists.specs.Lists.{Holds, list_count, boost_of, counter, is_preferred, is_set, Pops, Inserts, Boosts, SameLists};
 
     /// Empty lists, one for each flag, which says whether it is for preferred operators alone.
     /// A boost lowers the counters of those by `boost`.
@@ -29,7 +29,7 @@ impl OpenLists {
         ensures empty { IfOk result (λ lists. (k : ℕ) → Holds lists k []) }
         ensures counters { IfOk result (λ lists. (k : ℕ) → counter lists k ≡ pos 0) }
         ensures sorts { IfOk result (λ lists. (k : ℕ) → is_preferred lists k ≡ is_set preferred_only.now k) }
-        ensures boost { IfOk result (λ lists. lists.boost ≡ boost) }
+        ensures boost { IfOk result (λ lists. boost_of lists ≡ boost) }
     {
         let mut lists = Vec::new(alloc);
         for flag in preferred_only {
@@ -91,7 +91,7 @@ impl OpenLists {
 
     /// Lowers the counters of the lists for preferred operators.
     pub fn boost(&mut self)
-        requires { (k : ℕ) → is_preferred self.old k ≡ true → (negsuc (2 ^ 63 - 1) +ℤ pos self.old.boost) ≤ℤ counter self.old k }
+        requires { (k : ℕ) → is_preferred self.old k ≡ true → (negsuc (2 ^ 63 - 1) +ℤ pos (boost_of self.old)) ≤ℤ counter self.old k }
         ensures { Boosts self.old self.new }
     {
         let by = self.boost;

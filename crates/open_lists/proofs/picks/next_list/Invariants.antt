@@ -1,4 +1,4 @@
-use Rattle.std.proofs.Common.{ℕ, slice_get}
+use Rattle.std.proofs.Common.{slice_get}
 use Rattle.open_lists.specs.Lists.{IsBestBefore, least_count_in, counter_in}
 use Rattle.open_lists.proofs.picks.next_list.Given as goal
 

@@ -1,5 +1,4 @@
-use Rattle.std.proofs.Common.{◌∙◌, ap, sym, refl, slice_get}
-use Rattle.open_lists.specs.Lists.{least_count_in}
+use Rattle.std.proofs.Common.{refl}
 use Rattle.open_lists.proofs.Places.{holds_some, holds_none}
 use Rattle.open_lists.proofs.lists.OpenLists.is_empty.Goals as goal
 

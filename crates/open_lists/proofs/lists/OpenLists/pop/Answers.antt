@@ -1,9 +1,9 @@
-use Rattle.std.proofs.Common.{◌≡◌, ◌≢◌, List, [], length, Option, refl, ap, arith, rules, w64, pos, ◌+ℤ◌, ◌<ℤ◌, ◌-◌, ◌^◌, FitsSigned, to_z, of_z, subst}
+use Rattle.std.proofs.Common.{length, Option, refl, arith, rules, w64, pos, ◌+ℤ◌, ◌<ℤ◌, ◌-◌, ◌^◌, FitsSigned, to_z, of_z, subst}
 use Rattle.std.proofs.lemmas.Int.{ints}
 use Rattle.std.proofs.lemmas.Option.{slice_get_read}
 use Rattle.open_lists.specs.Lists.{counter_in}
 use Rattle.open_lists.specs.declared.list.OpenList.{OpenList}
-use Rattle.open_lists.proofs.Places.{pops, holds_none}
+use Rattle.open_lists.proofs.Places.{pops}
 use Rattle.open_lists.proofs.lists.OpenLists.pop.Goals as goal
 
 pub returns-clause-popped : goal.returns-clause-popped

@@ -1,4 +1,4 @@
-use Rattle.std.proofs.Common.{◌≡◌, ◌∙◌, [], sym, arith, subst, length}
+use Rattle.std.proofs.Common.{◌≡◌, ◌∙◌, [], sym, arith}
 use Rattle.std.proofs.lemmas.Grind.{common_steps}
 use Rattle.open_lists.proofs.Rows.{no_runs, no_entries, nil_of_length}
 use Rattle.open_lists.proofs.queue.Queue.is_empty.Goals as goal

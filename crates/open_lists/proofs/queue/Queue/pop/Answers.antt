@@ -1,8 +1,7 @@
-use Rattle.std.proofs.Common.{◌≡◌, ◌∙◌, ◌∷◌, [], List, ℕ, sym, ap, refl, arith, length}
+use Rattle.std.proofs.Common.{◌≡◌, ◌∙◌, ◌∷◌, sym, ap, arith}
 use Rattle.std.proofs.lemmas.Grind.{common_steps}
 use Rattle.open_lists.specs.Runs.{entry_of, entries_in, less_one}
-use Rattle.open_lists.specs.declared.entry.Entry.{Entry}
-use Rattle.open_lists.proofs.Rows.{first_taken, first_taken-runs, no_operators}
+use Rattle.open_lists.proofs.Rows.{first_taken, no_operators}
 use Rattle.open_lists.proofs.queue.Queue.pop.Goals as goal
 
 pub unreachable-requires : goal.unreachable-requires

@@ -1,4 +1,4 @@
-use Rattle.std.proofs.Common.{◌≡◌, ◌≢◌, ◌∙◌, ◌++◌, [], sym, ap, refl, arith, List, ℕ, length}
+use Rattle.std.proofs.Common.{◌≡◌, ◌∙◌, ◌++◌, ap, arith, List, ℕ, length}
 use Rattle.std.proofs.lemmas.Grind.{common_steps}
 use Rattle.open_lists.specs.Runs.{entries_of_visit}
 use Rattle.open_lists.specs.declared.entry.Entry.{Entry}
