@@ -1,6 +1,5 @@
 -- A list stays without repeats.
-use Rattle.std.proofs.Common.{◌≡◌, ◌≢◌, ℕ, zero, suc, ◌<◌, ◌≤◌, List, [], ◌∷◌, ◌++◌, length, slice_get, Option, Some, None, Result, Ok, Err, IfOk, OnErr, ◌⊎◌, refl, sym, ap, ◌∙◌, subst, arith, inl, inr}
-use Rattle.std.proofs.lemmas.Bool.{cases_lt}
+use Rattle.std.proofs.Common.{◌≡◌, ℕ, zero, suc, ◌<◌, ◌≤◌, List, [], ◌∷◌, ◌++◌, length, slice_get, Some, Result, Ok, Err, IfOk, OnErr, ◌⊎◌, refl, sym, ap, ◌∙◌, arith, inl, inr}
 use Rattle.state_registry.specs.Interning.{Interns, IsAbsent, IsOnce}
 use Rattle.state_registry.specs.declared.interned.Interned.{Interned}
 use Rattle.state_registry.specs.declared.interned.Interned.TheVariants.{New, Known, Full}

@@ -1,4 +1,4 @@
-use Rattle.std.proofs.Common.{◌≡◌, ◌<◌, ◌≤◌, ℕ, List, length, Option, None, Bool, false, refl, sym, ap, ◌∙◌, subst, arith, is_some}
+use Rattle.std.proofs.Common.{◌≡◌, ◌<◌, ℕ, List, length, None, sym, ap, ◌∙◌, subst, arith, is_some}
 use Rattle.state_registry.specs.Interning.{Interns, IsAbsent, words_of}
 use Rattle.state_registry.specs.declared.interned.Interned.TheVariants.{New, Known, Full}
 use Rattle.state_registry.proofs.Vectors.{wide_known, wide_new, wide_full, wide_absent, words_of-length}
