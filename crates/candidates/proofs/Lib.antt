@@ -1,9 +1,6 @@
-pub mod Adding
 pub mod ChildFiles
 pub mod Fronts
 pub mod Gathered
-pub mod OneFile
-pub mod Verdicts
+pub mod Loop
 pub mod Taken
-pub mod Together
-pub mod Writing
+pub mod Verdicts

@@ -21,9 +21,8 @@ use Rattle.plan_check.specs.GoodPlans.{IsJudged, HasFewSteps}
 use Rattle.driver_core.specs.Keeping.{is_below}
 use Rattle.candidates.specs.declared.reading.Whole.{Whole}
 use Rattle.candidates.specs.declared.reading.Whole.TheVariants as whole
-use Rattle.candidates.specs.Collecting.{real_cost}
 use Rattle.candidates.specs.Whole.{whole_of}
-use Rattle.candidates.specs.Gathering.{IsSound, IsByBound}
+use Rattle.candidates.specs.Judging.{real_cost, IsPlanIfGood, HeedsBound}
 
 -- no fault of a cost that isn't below the bound
 abbrev IsPlain : {A : Type 0} → Result A PlanFault → Type 0
@@ -90,15 +89,15 @@ tells_true goal unit cost bound lines =
     (plain_only (nat_eq lines.cost cost) (WrongCost cost) refl)
     (λ same. tells_cheaper bound cost)))
 
-fair_plain : {A : Type 0} (bound : Option ℕ) (r : Result A PlanFault) (f : A → Result (List ℕ × ℕ) PlanFault) → IsPlain r → ((x : A) → IsByBound bound (as_verdict (f x))) → IsByBound bound (as_verdict (r >>= f))
+fair_plain : {A : Type 0} (bound : Option ℕ) (r : Result A PlanFault) (f : A → Result (List ℕ × ℕ) PlanFault) → IsPlain r → ((x : A) → HeedsBound bound (as_verdict (f x))) → HeedsBound bound (as_verdict (r >>= f))
 fair_plain bound (Ok x) f plain so = so x
 fair_plain bound (Err fault) f plain so = λ c is. absurd (no_cost fault c plain is)
 
-fair_told : (parts : Parts) (bound : Option ℕ) (ops : List ℕ) (r : Result (Unit {0}) PlanFault) → Tells bound (cost_of parts ops) r → IsByBound bound (as_verdict (r >>= (λ told. Ok (ops, cost_of parts ops))))
+fair_told : (parts : Parts) (bound : Option ℕ) (ops : List ℕ) (r : Result (Unit {0}) PlanFault) → Tells bound (cost_of parts ops) r → HeedsBound bound (as_verdict (r >>= (λ told. Ok (ops, cost_of parts ops))))
 fair_told parts bound ops (Ok x) tells = tells
 fair_told parts bound ops (Err fault) tells = tells
 
-fair_plan : (parts : Parts) (bound : Option ℕ) (lines : PlanLines) → IsByBound bound (as_verdict (plan_in parts bound lines))
+fair_plan : (parts : Parts) (bound : Option ℕ) (lines : PlanLines) → HeedsBound bound (as_verdict (plan_in parts bound lines))
 unfolding plan_in
 fair_plan parts bound lines =
     fair_plain bound (chosen parts lines.names) (λ ops. compared (reaches_goal parts ops) (is_unit_cost parts) (cost_of parts ops) bound lines >>= (λ told. Ok (ops, cost_of parts ops)))
@@ -110,12 +109,12 @@ plain_text (Ok lines) = tt
 plain_text (Err fault) = refl
 
 -- a verdict is by the bound
-pub fair_verdict : (parts : Parts) (bytes : List ℕ) (bound : Option ℕ) → IsByBound bound (verdict_of parts bytes bound)
+pub fair_verdict : (parts : Parts) (bytes : List ℕ) (bound : Option ℕ) → HeedsBound bound (verdict_of parts bytes bound)
 unfolding verdict_of plan_of
 fair_verdict parts bytes bound = fair_plain bound (as_text (plan_lines_of bytes)) (plan_in parts bound) (plain_text (plan_lines_of bytes)) (λ lines. fair_plan parts bound lines)
 
 -- what is judged good is a plan
-pub sound_verdict : (parts : Parts) (bytes : List ℕ) (bound : Option ℕ) (verdict : Verdict) → IsJudged parts bytes bound verdict → HasFewSteps verdict → IsSound parts verdict
+pub sound_verdict : (parts : Parts) (bytes : List ℕ) (bound : Option ℕ) (verdict : Verdict) → IsJudged parts bytes bound verdict → HasFewSteps verdict → IsPlanIfGood parts verdict
 sound_verdict parts bytes bound (Good ops cost) judged few = record {
   plan = judged.plan;
   cost_is = judged.cost_is;

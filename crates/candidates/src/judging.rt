@@ -3,7 +3,7 @@ ghost use Rattle.std.specs.Prelude.{◌≡◌, ◌≤◌, IfOk, IfSome, option_m
 ghost use Rattle.std.specs.FinMap.{get};
 ghost use Rattle.lama_host.specs.Folder.{IsUntouched, Rose, WhereTold};
 ghost use Rattle.plan_check.specs.Verdicts.{verdict_of};
-ghost use Rattle.candidates.specs.Gathering.{IsSound, IsByBound};
+ghost use Rattle.candidates.specs.Judging.{IsPlanIfGood, HeedsBound};
 
 use crate::reading::{ReadError, Whole, read_whole};
 use lama_host::Folder;
@@ -26,11 +26,12 @@ pub fn judge_file<F: Folder>(
 ) -> Result<Option<Verdict>, ReadError>
     ensures untouched { IsUntouched (F.told folder.old) (F.told folder.new) }
     ensures later { (F.told folder.old).faults ≤ (F.told folder.new).faults }
-    ensures failed { result ≡ Err ReadError.Failed → Rose (F.told folder.old).faults (F.told folder.new).faults }
+    ensures failed { result ≡ Err ReadError.Failed
+        → Rose (F.told folder.old).faults (F.told folder.new).faults }
     ensures exact { WhereTold (F.told folder.old) (λ files. IfOk result (λ verdict.
         verdict ≡ option_map (λ bytes. verdict_of task.now bytes bound) (get files name.now))) }
-    ensures sound { IfOk result (λ verdict. IfSome verdict (λ v. IsSound task.now v)) }
-    ensures bound { IfOk result (λ verdict. IfSome verdict (λ v. IsByBound bound v)) }
+    ensures sound { IfOk result (λ verdict. IfSome verdict (λ v. IsPlanIfGood task.now v)) }
+    ensures bound { IfOk result (λ verdict. IfSome verdict (λ v. HeedsBound bound v)) }
 {
     match read_whole(alloc, folder, name, MOST_BYTES)? {
         Whole::Missing => Ok(None),

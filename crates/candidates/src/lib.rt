@@ -1,4 +1,5 @@
-//! Candidates for plans: reading whole files, and judging the plan files that a child left.
+//! Candidates for plans: reading whole files, judging the plan files that a child left, and keeping
+//! plans.
 #![tactic(auto)]
 
 mod collecting;
@@ -8,5 +9,6 @@ mod offers;
 mod reading;
 
 pub use collecting::collect;
+pub use keeping::keep_candidate;
 pub use offers::{Candidate, Found};
 pub use reading::{ReadError, Whole, read_whole};

@@ -35,8 +35,10 @@ enum Turn {
 fn read_on<F: Folder>(folder: &mut F, name: &str, bytes: &mut Vec<u8>) -> Result<Turn, ReadError>
     ensures untouched { IsUntouched (F.told folder.old) (F.told folder.new) }
     ensures later { (F.told folder.old).faults ≤ (F.told folder.new).faults }
-    ensures failed { result ≡ Err ReadError.Failed → Rose (F.told folder.old).faults (F.told folder.new).faults }
-    ensures turns { WhereTold (F.told folder.old) (λ files. IsFrontOf (get files name.now) bytes.old.items →
+    ensures failed { result ≡ Err ReadError.Failed
+        → Rose (F.told folder.old).faults (F.told folder.new).faults }
+    ensures turns { WhereTold (F.told folder.old) (λ files.
+        IsFrontOf (get files name.now) bytes.old.items →
         IfOk result (λ turn. Turns (get files name.now) bytes.old.items bytes.new.items turn)) }
     ensures more { result ≡ Ok Turn.More → length bytes.old.items < length bytes.new.items }
     ensures end { result ≡ Ok Turn.End → bytes.new.items ≡ bytes.old.items }
@@ -63,8 +65,10 @@ pub fn read_whole<F: Folder>(
 ) -> Result<Whole, ReadError>
     ensures untouched { IsUntouched (F.told folder.old) (F.told folder.new) }
     ensures later { (F.told folder.old).faults ≤ (F.told folder.new).faults }
-    ensures failed { result ≡ Err ReadError.Failed → Rose (F.told folder.old).faults (F.told folder.new).faults }
-    ensures exact { WhereTold (F.told folder.old) (λ files. IfOk result (λ whole. whole ≡ whole_of (get files name.now) most)) }
+    ensures failed { result ≡ Err ReadError.Failed
+        → Rose (F.told folder.old).faults (F.told folder.new).faults }
+    ensures exact { WhereTold (F.told folder.old) (λ files.
+        IfOk result (λ whole. whole ≡ whole_of (get files name.now) most)) }
 {
     let mut bytes = Vec::new(alloc);
     while bytes.len() as u64 <= most {

@@ -23,7 +23,10 @@ use Rattle.sas_task.specs.Runs.{IsPlanOf}
 use Rattle.plain_search.specs.Visits.{HasNoPlan}
 use Rattle.driver_core.specs.declared.events.Event.{Event}
 use Rattle.driver_core.specs.declared.events.Event.TheVariants.{Began, Candidate, Ended}
-use Rattle.driver_core.specs.Turns.{turn_of, IsOn}
+use Rattle.driver_core.specs.Turns.{turn_of, begins_at, IsOn}
+use Rattle.driver_core.specs.Keeping.{kept_costs}
+use Rattle.driver_core.specs.declared.settings.Setting.{Setting}
+use Rattle.candidates.specs.Collecting.{IsInTurn, KeepsBelow}
 use Rattle.driver_core.specs.Legal.{IsAllowed}
 use Rattle.driver_core.specs.Laws.{none_before_first}
 use Rattle.driver_core.specs.Ends.{code_of}
@@ -54,11 +57,18 @@ pub stands_begun : (core next : CoreState) (start began : ℕ) → core.setting 
     StandsFor next (Began 1 1 began ∷ [])
 stands_begun core next start began set stands later step = step [] stands (subst (λ s. IsAllowed s [] (Began 1 1 began)) (sym set) (may_begin start began later))
 
--- and then a plan
-pub stands_offered : (core next : CoreState) (start began cost : ℕ) → core.setting ≡ set_at start → StandsFor core (Began 1 1 began ∷ []) →
-    ((events : List Event) → StandsFor core events → IsAllowed core.setting events (Candidate 1 1 (Some cost)) → StandsFor next (events ++ Candidate 1 1 (Some cost) ∷ [])) →
-    StandsFor next (Began 1 1 began ∷ Candidate 1 1 (Some cost) ∷ [])
-stands_offered core next start began cost set stands step = step (Began 1 1 began ∷ []) stands (subst (λ s. IsAllowed s (Began 1 1 began ∷ []) (Candidate 1 1 (Some cost))) (sym set) (may_offer start began cost))
+-- a plan that comes then is kept
+pub in_turn : (core : CoreState) (start began : ℕ) → core.setting ≡ set_at start → StandsFor core (begins_at (turn_of 1 1) began ∷ []) → IsInTurn core (begins_at (turn_of 1 1) began ∷ []) (turn_of 1 1) []
+in_turn core start began set stands = record { stands = stands; on = runs_begun began; costs = ap (λ s. kept_costs s (begins_at (turn_of 1 1) began ∷ [])) set }
+
+pub keeps_below : (setting : Setting) (start began : ℕ) → setting ≡ set_at start → KeepsBelow setting (begins_at (turn_of 1 1) began ∷ []) None
+keeps_below setting start began set = subst (λ s. KeepsBelow s (begins_at (turn_of 1 1) began ∷ []) None) (sym set) (record {
+  over = refl;
+  going = refl;
+  room = omega arith;
+  present = refl;
+  keeps = λ cost. refl;
+})
 
 -- a plan that was placed under the base changes nothing outside
 pub kept_outside : (before now : Told) (base text : List ℕ) → base ≡ base_name → Changes before now (PlacesPlan {T = Unit {0}} {E = Failed} (Ok tt) base false 1 text) → Leaves before now (SameOutside base_name)
@@ -80,7 +90,7 @@ pub solved_by_plan : (parts : Parts) (times : Times) (ops : List ℕ) (cost code
     code ≡ code_of (set_at times.start) (Began 1 1 times.began ∷ Candidate 1 1 (Some cost) ∷ Ended 1 1 part.Over false ∷ []) →
     IsSolved parts times (record {
       kept = record { entry = 1; ops = ops; cost = cost } ∷ [];
-      candidates = record { entry = 1; file = None; found = WasKept 0 } ∷ [];
+      candidates = record { round = 1; entry = 1; file = None; found = WasKept 0 } ∷ [];
       ends = record { entry = 1; began = times.began; outcome = Over } ∷ [];
       code = code;
     })
@@ -88,7 +98,7 @@ solved_by_plan parts times ops cost code plan later is = record {
   plans = record {
     plans = λ k kept at. rw (← (only (record { entry = 1; ops = ops; cost = cost }) kept k at)) (record { parts = parts; of_task = refl; by_entry = refl; plan = plan.plan; cost_is = plan.cost_is });
     most = omega arith;
-    own = λ k candidate at. rw (← (only (record { entry = 1; file = None; found = WasKept 0 }) candidate k at)) (refl, refl);
+    own = λ k candidate at. rw (← (only (record { round = 1; entry = 1; file = None; found = WasKept 0 }) candidate k at)) (refl, refl);
     places = refl;
   };
   ends = (refl, refl, refl);

@@ -17,7 +17,7 @@ use Rattle.driver_run.specs.declared.report.EntryEnd.{EntryEnd}
 use Rattle.driver_run.specs.declared.report.Outcome.{Outcome}
 use Rattle.driver_run.specs.declared.report.Outcome.TheVariants as outcome
 use Rattle.driver_run.specs.declared.report.Why.TheVariants as why
-use Rattle.candidates.specs.Collecting.{real_cost}
+use Rattle.candidates.specs.Judging.{real_cost}
 use Rattle.driver_run.specs.Reports.{part_of}
 
 -- what a candidate costs, where it is a plan

@@ -17,13 +17,13 @@ ghost use Rattle.driver_run.specs.Entries.{IsSolved, IsEntryReport, AsksOnce};
 ghost use Rattle.driver_run.specs.Words.{base_name};
 
 use crate::report::{EntryEnd, Outcome, Report, Why};
-use candidates::{Candidate, Found};
+use candidates::{Candidate, ReadError, keep_candidate};
 use driver_core::{Core, Event};
 use exit_codes::Part;
 use lama_host::{Clock, Failed, Folder};
 use lama_num::{NameBuf, NoMemory, Seq};
 use plain_search::{Found as Searched, Space, search};
-use plan_manager::{keep, seal};
+use plan_manager::seal;
 use sas_task::{Kept, Task};
 use std::alloc::Global;
 
@@ -100,19 +100,6 @@ fn begin(alloc: Global, times: Times) -> Result<Core, NoMemory>
     Ok(core)
 }
 
-/// Tells the core of a plan.
-fn offer(core: &mut Core, cost: u64)
-    ensures setting { core.new.setting ≡ core.old.setting }
-    ensures stands { (start began : ℕ) → core.old.setting ≡ set_at start → StandsFor core.old (TheEvent.Began 1 1 began ∷ []) →
-        StandsFor core.new (TheEvent.Began 1 1 began ∷ TheEvent.Candidate 1 1 (Some cost) ∷ []) }
-{
-    core.step(Event::Candidate {
-        round: ROUND,
-        entry: ENTRY,
-        cost: Some(cost),
-    });
-}
-
 /// Tells the core that the entry ended, and gives the code of the run.
 fn end(core: &mut Core, part: Part, last: bool) -> u8
     ensures { (events : List TheEvent) → StandsFor core.old events → IsOn events (turn_of 1 1) →
@@ -152,32 +139,33 @@ fn keep_plan<F: Folder>(
     ensures solved { IfOk result (λ solved. IfSome solved (IsSolved task.now times)) }
 {
     let mut core = core;
-    let kept = one(
-        alloc,
-        Kept {
-            entry: ENTRY,
-            ops,
-            cost,
-        },
-    )?;
-    let found = Found::Kept { index: 0 };
-    let candidates = one(
-        alloc,
-        Candidate {
-            entry: ENTRY,
-            file: None,
-            found,
-        },
-    )?;
+    let mut kept = Vec::new(alloc);
+    let mut candidates = Vec::new(alloc);
     let ends = end_of(alloc, times, Outcome::Over)?;
-    offer(&mut core, cost);
-    match keep(folder, base, false, 1, task, &kept[0]) {
-        Err(Failed) => Ok(None),
+    let plan = Kept {
+        entry: ENTRY,
+        ops,
+        cost,
+    };
+    match keep_candidate(
+        folder,
+        task,
+        base,
+        false,
+        ROUND,
+        None,
+        plan,
+        &mut core,
+        &mut kept,
+        &mut candidates,
+    ) {
+        Err(ReadError::NoMemory) => Err(NoMemory),
+        Err(ReadError::Failed) => Ok(None),
         Ok(()) => {
             let code = end(&mut core, Part::Over, false);
             Ok(Some(Solved {
-                kept,
-                candidates,
+                kept: Seq::from(kept),
+                candidates: Seq::from(candidates),
                 ends,
                 code,
             }))

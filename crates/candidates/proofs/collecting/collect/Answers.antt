@@ -1,99 +1,201 @@
-use Rattle.std.proofs.Common.{◌≡◌, ◌∙◌, [], ◌++◌, Bool, true, false, Result, Ok, Err, map, refl, sym, ap, subst, arith, rules}
-use Rattle.candidates.specs.Collecting.{Judged, offer_of}
-use Rattle.candidates.specs.Gathering.{IsGathering}
-use Rattle.candidates.proofs.Adding.{no_plans_added, adds_then}
-use Rattle.lama_host.specs.StepLaws.{stays_same, stays_then}
-use Rattle.candidates.proofs.Together.{at_first, now_gathering, collected_next, ends_early, ends_fully, ends_last}
+use Rattle.std.proofs.Common.{◌≡◌, ◌∙◌, ◌+◌, [], ◌∷◌, ◌++◌, Some, None, Result, Ok, Err, map, refl, sym, ap, subst, arith, rules}
+use Rattle.std.specs.Prelude.{option_map}
+use Rattle.std.specs.FinMap.{get}
+use Rattle.lama_host.specs.StepLaws.{stays_same, stays_then, stays_untouched}
+use Rattle.plan_check.specs.Verdicts.{verdict_of}
+use Rattle.plan_manager.specs.Family.{family_name}
+use Rattle.driver_core.specs.Turns.{turn_of}
+use Rattle.candidates.specs.Collecting.{KeepsBelow, standing}
+use Rattle.candidates.specs.Judging.{judged_as, offer_of}
+use Rattle.candidates.proofs.Gathered.{room_for_one, none_yet}
+use Rattle.candidates.proofs.Loop.{Collected, IsVerdictOn, at_first, in_turn, held_first, still_collected, passed_over, verdict_on, nothing_there, took, ends_over, ends_missing, ends_last, ends_early, ends_unread}
 use Rattle.candidates.proofs.collecting.collect.Goals as goal
 
-pub collect_file-requires-clause-single : goal.collect_file-requires-clause-single
-collect_file-requires-clause-single g c = λ one. ap (λ s. s.single) c.loop-number.invariant.setting ∙ c.requires.single one
-
-pub collect_file-requires-clause-gathering : goal.collect_file-requires-clause-gathering
-collect_file-requires-clause-gathering g c =
-    let told = g.F.Folder.told in
-    let events = c.requires.gathering.0 in
-    let has = c.loop-number.invariant.collected events c.requires.gathering.1 in (
-      events ++ map (offer_of c.args.entry) has.0,
-      now_gathering c.args.core.now.setting c.args.task.now c.args.base.now c.args.many c.args.entry (told c.args.folder.now) (told c.loop-number.folder) c.loop-number.core events c.args.kept.now.items c.loop-number.kept.items c.args.candidates.now.items c.loop-number.candidates.items c.loop-number.number has.0 has.1,
-    )
-
 pub loop-number-init : goal.loop-number-init
-loop-number-init g c = record {
-  stays = stays_same (g.F.Folder.told c.args.folder.now);
-  plans = no_plans_added c.args.task.now c.args.kept.now.items c.args.kept.now.items refl;
-  setting = refl;
-  collected = λ events gathering.
-      ([], at_first c.args.core.now.setting c.args.task.now c.args.base.now c.args.many c.args.entry (g.F.Folder.told c.args.folder.now) c.args.core.now events c.args.kept.now.items c.args.candidates.now.items gathering);
-}
+loop-number-init g c =
+    let a = standing (g.F.Folder.told c.args.folder.now) c.args.core.now c.args.kept.now.items c.args.candidates.now.items in
+    record {
+      stays = stays_same (g.F.Folder.told c.args.folder.now);
+      setting = refl;
+      collected = λ events is. ([], at_first c.args.task.now c.args.base.now c.args.many (turn_of c.args.round c.args.entry) events a is);
+    }
+
+pub returns-then-is_over-clause-collects : goal.returns-then-is_over-clause-collects
+returns-then-is_over-clause-collects g c events is =
+    let told = g.F.Folder.told in
+    let turn = turn_of c.args.round c.args.entry in
+    let a = standing (told c.args.folder.now) c.args.core.now c.args.kept.now.items c.args.candidates.now.items in
+    let b = standing (told c.loop-number.folder) c.loop-number.core c.loop-number.kept.items c.loop-number.candidates.items in
+    let has = c.loop-number.invariant.collected events is in
+    let now = in_turn c.args.task.now c.args.base.now c.args.many turn events a b c.loop-number.number has.0 has.1 in
+    ends_over c.args.task.now c.args.base.now c.args.many turn events a b c.loop-number.number has.0 c.loop-number.invariant.setting has.1
+    (sym (c.is_over.ensures.over (events ++ map (offer_of turn) has.0) now.stands) ∙ c.if-is_over.true)
+
+pub returns-in_err-verdict-clause-collects : goal.returns-in_err-verdict-clause-collects
+returns-in_err-verdict-clause-collects g c events is =
+    let told = g.F.Folder.told in
+    let turn = turn_of c.args.round c.args.entry in
+    let a = standing (told c.args.folder.now) c.args.core.now c.args.kept.now.items c.args.candidates.now.items in
+    let b = standing (told c.loop-number.folder) c.loop-number.core c.loop-number.kept.items c.loop-number.candidates.items in
+    let has = c.loop-number.invariant.collected events is in
+    ends_unread c.from_residual.result c.in_err-verdict.field-0.0 c.args.task.now c.args.base.now c.args.many turn events a b (told c.judge_file.new.folder) c.loop-number.number has.0
+    (search rules) c.loop-number.invariant.stays.busy c.loop-number.invariant.setting c.judge_file.ensures.untouched has.1
+
+-- the single file isn't there
+pub loop-number-preserved-then-number-eq0 : goal.loop-number-preserved-then-number-eq0
+loop-number-preserved-then-number-eq0 g c =
+    let told = g.F.Folder.told in
+    let turn = turn_of c.args.round c.args.entry in
+    let a = standing (told c.args.folder.now) c.args.core.now c.args.kept.now.items c.args.candidates.now.items in
+    let b = standing (told c.loop-number.folder) c.loop-number.core c.loop-number.kept.items c.loop-number.candidates.items in
+    let named = c.name.ensures ∙ c.new-name.ensures ∙ ap (λ child. family_name child c.loop-number.number) c.child-child.ensures.name in
+    record {
+      stays = stays_then (told c.args.folder.now) (told c.loop-number.folder) (told c.judge_file.new.folder) c.loop-number.invariant.stays
+          (stays_untouched (told c.loop-number.folder) (told c.judge_file.new.folder) c.judge_file.ensures.untouched c.judge_file.ensures.later);
+      setting = c.loop-number.invariant.setting;
+      collected = λ events is.
+          let has = c.loop-number.invariant.collected events is in (
+            has.0,
+            still_collected c.args.task.now c.args.base.now c.args.many turn events a b (told c.judge_file.new.folder) (c.loop-number.number + 1) has.0 c.judge_file.ensures.untouched
+                (passed_over c.args.task.now c.args.base.now c.args.many turn events a b c.loop-number.number has.0 c.if-number-eq0.true has.1
+                (held_first c.args.task.now c.args.base.now c.args.many turn events a b c.loop-number.number has.0 (λ held. held ≡ None) c.requires.entry.high (omega arith)
+                (c.loop-number.invariant.stays.busy ∙ c.requires.idle) c.loop-number.invariant.setting c.requires.single has.1
+                (λ files idle held. subst (λ name. get files name ≡ None) named
+                (nothing_there (λ bytes. verdict_of c.args.task.now bytes c.bound-bound.result) c.in_ok-verdict.field-0 (get files c.name.result.now) c.in_default.is (c.in_ok-verdict.ensures.exact files idle held))))),
+          );
+    }
+
+-- a numbered one isn't
+pub returns-in_default-clause-collects : goal.returns-in_default-clause-collects
+returns-in_default-clause-collects g c events is =
+    let told = g.F.Folder.told in
+    let turn = turn_of c.args.round c.args.entry in
+    let a = standing (told c.args.folder.now) c.args.core.now c.args.kept.now.items c.args.candidates.now.items in
+    let b = standing (told c.loop-number.folder) c.loop-number.core c.loop-number.kept.items c.loop-number.candidates.items in
+    let named = c.name.ensures ∙ c.new-name.ensures ∙ ap (λ child. family_name child c.loop-number.number) c.child-child.ensures.name in
+    let has = c.loop-number.invariant.collected events is in
+    ends_missing c.args.task.now c.args.base.now c.args.many turn events a (standing (told c.judge_file.new.folder) c.loop-number.core c.loop-number.kept.items c.loop-number.candidates.items) c.loop-number.number has.0 c.if-number-eq0.false (omega arith)
+    (still_collected c.args.task.now c.args.base.now c.args.many turn events a b (told c.judge_file.new.folder) c.loop-number.number has.0 c.judge_file.ensures.untouched has.1)
+    (held_first c.args.task.now c.args.base.now c.args.many turn events a b c.loop-number.number has.0 (λ held. held ≡ None) c.requires.entry.high (omega arith)
+    (c.loop-number.invariant.stays.busy ∙ c.requires.idle) c.loop-number.invariant.setting c.requires.single has.1
+    (λ files idle held. subst (λ name. get files name ≡ None) named
+    (nothing_there (λ bytes. verdict_of c.args.task.now bytes c.bound-bound.result) c.in_ok-verdict.field-0 (get files c.name.result.now) c.in_default.is (c.in_ok-verdict.ensures.exact files idle held))))
+
+-- the file is there
+pub take_candidate-requires-clause-room : goal.take_candidate-requires-clause-room
+take_candidate-requires-clause-room g c =
+    let told = g.F.Folder.told in
+    let turn = turn_of c.args.round c.args.entry in
+    let a = standing (told c.args.folder.now) c.args.core.now c.args.kept.now.items c.args.candidates.now.items in
+    let b = standing (told c.loop-number.folder) c.loop-number.core c.loop-number.kept.items c.loop-number.candidates.items in
+    let events = c.requires.turn.0 in
+    let has = c.loop-number.invariant.collected events c.requires.turn.1 in
+    let past = events ++ map (offer_of turn) has.0 in
+    let now = in_turn c.args.task.now c.args.base.now c.args.many turn events a b c.loop-number.number has.0 has.1 in
+    let over = sym (c.is_over.ensures.over past now.stands) ∙ c.if-is_over.false in
+    let keeps : KeepsBelow c.loop-number.core.setting past c.bound-bound.result = record {
+      over = over;
+      going = c.is_over.ensures.going past now.stands c.if-is_over.false;
+      room = c.is_over.ensures.room past now.stands c.if-is_over.false;
+      present = c.bound-bound.ensures.bound past now.stands;
+      keeps = c.bound-bound.ensures.keeps past now.stands over;
+    } in
+    room_for_one c.loop-number.core past turn c.loop-number.kept.items c.bound-bound.result now keeps
+
+pub take_candidate-requires-clause-single : goal.take_candidate-requires-clause-single
+take_candidate-requires-clause-single g c one =
+    let told = g.F.Folder.told in
+    let turn = turn_of c.args.round c.args.entry in
+    let a = standing (told c.args.folder.now) c.args.core.now c.args.kept.now.items c.args.candidates.now.items in
+    let b = standing (told c.loop-number.folder) c.loop-number.core c.loop-number.kept.items c.loop-number.candidates.items in
+    let events = c.requires.turn.0 in
+    let has = c.loop-number.invariant.collected events c.requires.turn.1 in
+    let past = events ++ map (offer_of turn) has.0 in
+    let now = in_turn c.args.task.now c.args.base.now c.args.many turn events a b c.loop-number.number has.0 has.1 in
+    let over = sym (c.is_over.ensures.over past now.stands) ∙ c.if-is_over.false in
+    let keeps : KeepsBelow c.loop-number.core.setting past c.bound-bound.result = record {
+      over = over;
+      going = c.is_over.ensures.going past now.stands c.if-is_over.false;
+      room = c.is_over.ensures.room past now.stands c.if-is_over.false;
+      present = c.bound-bound.ensures.bound past now.stands;
+      keeps = c.bound-bound.ensures.keeps past now.stands over;
+    } in
+    none_yet c.loop-number.core past turn c.loop-number.kept.items c.bound-bound.result (ap (λ s. s.single) c.loop-number.invariant.setting ∙ c.requires.single one) now keeps
+
+pub returns-in_err-take_candidate-clause-stays : goal.returns-in_err-take_candidate-clause-stays
+returns-in_err-take_candidate-clause-stays g c =
+    let told = g.F.Folder.told in
+    stays_then (told c.args.folder.now) (told c.loop-number.folder) (told c.take_candidate.new.folder) c.loop-number.invariant.stays
+    (stays_then (told c.loop-number.folder) (told c.judge_file.new.folder) (told c.take_candidate.new.folder)
+    (stays_untouched (told c.loop-number.folder) (told c.judge_file.new.folder) c.judge_file.ensures.untouched c.judge_file.ensures.later) c.take_candidate.ensures.stays)
+
+pub returns-in_err-take_candidate-clause-collects : goal.returns-in_err-take_candidate-clause-collects
+returns-in_err-take_candidate-clause-collects g c events is =
+    let told = g.F.Folder.told in
+    let turn = turn_of c.args.round c.args.entry in
+    let a = standing (told c.args.folder.now) c.args.core.now c.args.kept.now.items c.args.candidates.now.items in
+    let b = standing (told c.loop-number.folder) c.loop-number.core c.loop-number.kept.items c.loop-number.candidates.items in
+    let b' = standing (told c.judge_file.new.folder) c.loop-number.core c.loop-number.kept.items c.loop-number.candidates.items in
+    let end = standing (told c.take_candidate.new.folder) c.take_candidate.new.core c.take_candidate.new.kept.items c.take_candidate.new.candidates.items in
+    let has = c.loop-number.invariant.collected events is in
+    let past = events ++ map (offer_of turn) has.0 in
+    let now = in_turn c.args.task.now c.args.base.now c.args.many turn events a b c.loop-number.number has.0 has.1 in
+    let over = sym (c.is_over.ensures.over past now.stands) ∙ c.if-is_over.false in
+    let keeps : KeepsBelow c.loop-number.core.setting past c.bound-bound.result = record {
+      over = over;
+      going = c.is_over.ensures.going past now.stands c.if-is_over.false;
+      room = c.is_over.ensures.room past now.stands c.if-is_over.false;
+      present = c.bound-bound.ensures.bound past now.stands;
+      keeps = c.bound-bound.ensures.keeps past now.stands over;
+    } in
+    ends_early c.from_residual-in_err-take_candidate.result c.in_err-take_candidate.field-0.0 c.args.task.now c.args.base.now c.args.many turn events a b' end c.loop-number.number has.0
+    (search rules) (ap (λ t. t.busy) c.judge_file.ensures.untouched ∙ c.loop-number.invariant.stays.busy) c.loop-number.invariant.setting
+    (still_collected c.args.task.now c.args.base.now c.args.many turn events a b (told c.judge_file.new.folder) c.loop-number.number has.0 c.judge_file.ensures.untouched has.1)
+    (c.in_err-take_candidate.ensures.takes past c.bound-bound.result now keeps (search rules))
 
 pub loop-number-preserved : goal.loop-number-preserved
 loop-number-preserved g c =
     let told = g.F.Folder.told in
+    let turn = turn_of c.args.round c.args.entry in
+    let a = standing (told c.args.folder.now) c.args.core.now c.args.kept.now.items c.args.candidates.now.items in
+    let b = standing (told c.loop-number.folder) c.loop-number.core c.loop-number.kept.items c.loop-number.candidates.items in
+    let b' = standing (told c.judge_file.new.folder) c.loop-number.core c.loop-number.kept.items c.loop-number.candidates.items in
+    let next = standing (told c.take_candidate.new.folder) c.take_candidate.new.core c.take_candidate.new.kept.items c.take_candidate.new.candidates.items in
+    let named = c.name.ensures ∙ c.new-name.ensures ∙ ap (λ child. family_name child c.loop-number.number) c.child-child.ensures.name in
     record {
-      stays = stays_then (told c.args.folder.now) (told c.loop-number.folder) (told c.collect_file.new.folder) c.loop-number.invariant.stays c.collect_file.ensures.stays;
-      plans = adds_then c.args.task.now c.args.kept.now.items c.loop-number.kept.items c.collect_file.new.kept.items c.loop-number.invariant.plans c.collect_file.ensures.plans;
-      setting = c.collect_file.ensures.setting ∙ c.loop-number.invariant.setting;
-      collected = λ events gathering.
-          let has = c.loop-number.invariant.collected events gathering in
-          collected_next (Ok c.in_ok-goes_on.goes_on) c.args.core.now.setting c.args.task.now c.args.base.now c.args.many c.args.entry
-          (told c.args.folder.now) (told c.loop-number.folder) (told c.collect_file.new.folder) c.loop-number.core c.collect_file.new.core events
-          c.args.kept.now.items c.loop-number.kept.items c.collect_file.new.kept.items c.args.candidates.now.items c.loop-number.candidates.items c.collect_file.new.candidates.items
-          c.loop-number.number has.0
-          (search rules) c.requires.entry.high (omega arith) (c.loop-number.invariant.stays.busy ∙ c.requires.idle) c.loop-number.invariant.setting (c.collect_file.ensures.setting ∙ c.loop-number.invariant.setting) c.requires.single has.1
-          (c.in_ok-goes_on.ensures.gathers (events ++ map (offer_of c.args.entry) has.0)
-          (now_gathering c.args.core.now.setting c.args.task.now c.args.base.now c.args.many c.args.entry (told c.args.folder.now) (told c.loop-number.folder) c.loop-number.core events c.args.kept.now.items c.loop-number.kept.items c.args.candidates.now.items c.loop-number.candidates.items c.loop-number.number has.0 has.1));
+      stays = stays_then (told c.args.folder.now) (told c.loop-number.folder) (told c.take_candidate.new.folder) c.loop-number.invariant.stays
+          (stays_then (told c.loop-number.folder) (told c.judge_file.new.folder) (told c.take_candidate.new.folder)
+          (stays_untouched (told c.loop-number.folder) (told c.judge_file.new.folder) c.judge_file.ensures.untouched c.judge_file.ensures.later) c.take_candidate.ensures.stays);
+      setting = c.take_candidate.ensures.setting ∙ c.loop-number.invariant.setting;
+      collected = λ events is.
+          let has = c.loop-number.invariant.collected events is in
+          let past = events ++ map (offer_of turn) has.0 in
+          let now = in_turn c.args.task.now c.args.base.now c.args.many turn events a b c.loop-number.number has.0 has.1 in
+          let over = sym (c.is_over.ensures.over past now.stands) ∙ c.if-is_over.false in
+          let keeps : KeepsBelow c.loop-number.core.setting past c.bound-bound.result = record {
+            over = over;
+            going = c.is_over.ensures.going past now.stands c.if-is_over.false;
+            room = c.is_over.ensures.room past now.stands c.if-is_over.false;
+            present = c.bound-bound.ensures.bound past now.stands;
+            keeps = c.bound-bound.ensures.keeps past now.stands over;
+          } in (
+            has.0 ++ judged_as c.loop-number.number c.in-Some.verdict ∷ [],
+            took c.args.task.now c.args.base.now c.args.many turn events a b' next c.loop-number.number has.0 c.bound-bound.result c.in-Some.verdict (omega arith)
+                (ap (λ t. t.busy) c.judge_file.ensures.untouched ∙ c.loop-number.invariant.stays.busy) c.loop-number.invariant.setting
+                (still_collected c.args.task.now c.args.base.now c.args.many turn events a b (told c.judge_file.new.folder) c.loop-number.number has.0 c.judge_file.ensures.untouched has.1) keeps
+                (held_first c.args.task.now c.args.base.now c.args.many turn events a b c.loop-number.number has.0 (λ held. IsVerdictOn c.args.task.now c.bound-bound.result held c.in-Some.verdict)
+                c.requires.entry.high (omega arith) (c.loop-number.invariant.stays.busy ∙ c.requires.idle) c.loop-number.invariant.setting c.requires.single has.1
+                (λ files idle held. subst (λ name. IsVerdictOn c.args.task.now c.bound-bound.result (get files name) c.in-Some.verdict) named
+                (verdict_on c.args.task.now c.bound-bound.result c.in_ok-verdict.field-0 (get files c.name.result.now) c.in-Some.verdict c.in-Some.is (c.in_ok-verdict.ensures.exact files idle held))))
+                (c.in_ok-take_candidate.ensures.takes past c.bound-bound.result now keeps (search rules)),
+          );
     }
 
-pub returns-in_err-goes_on-clause-gathers : goal.returns-in_err-goes_on-clause-gathers
-returns-in_err-goes_on-clause-gathers g c events gathering =
+pub returns-clause-collects : goal.returns-clause-collects
+returns-clause-collects g c events is =
     let told = g.F.Folder.told in
-    let has = c.loop-number.invariant.collected events gathering in
-    ends_early c.from_residual.result c.in_err-goes_on.field-0.0 (Err c.in_err-goes_on.field-0.0) c.args.core.now.setting c.args.task.now c.args.base.now c.args.many c.args.entry
-    (told c.args.folder.now) (told c.loop-number.folder) (told c.collect_file.new.folder) c.loop-number.core c.collect_file.new.core events
-    c.args.kept.now.items c.loop-number.kept.items c.collect_file.new.kept.items c.args.candidates.now.items c.loop-number.candidates.items c.collect_file.new.candidates.items
-    c.loop-number.number has.0
-    (search rules) refl c.requires.entry.high (omega arith) (c.loop-number.invariant.stays.busy ∙ c.requires.idle) c.loop-number.invariant.setting (c.collect_file.ensures.setting ∙ c.loop-number.invariant.setting) c.requires.single has.1
-    (c.in_err-goes_on.ensures.gathers (events ++ map (offer_of c.args.entry) has.0)
-    (now_gathering c.args.core.now.setting c.args.task.now c.args.base.now c.args.many c.args.entry (told c.args.folder.now) (told c.loop-number.folder) c.loop-number.core events c.args.kept.now.items c.loop-number.kept.items c.args.candidates.now.items c.loop-number.candidates.items c.loop-number.number has.0 has.1))
-
-pub returns-then-not-goes_on-clause-gathers : goal.returns-then-not-goes_on-clause-gathers
-returns-then-not-goes_on-clause-gathers g c events gathering =
-    let told = g.F.Folder.told in
-    let has = c.loop-number.invariant.collected events gathering in
-    ends_fully tt (Ok c.in_ok-goes_on.goes_on) c.args.core.now.setting c.args.task.now c.args.base.now c.args.many c.args.entry
-    (told c.args.folder.now) (told c.loop-number.folder) (told c.collect_file.new.folder) c.loop-number.core c.collect_file.new.core events
-    c.args.kept.now.items c.loop-number.kept.items c.collect_file.new.kept.items c.args.candidates.now.items c.loop-number.candidates.items c.collect_file.new.candidates.items
-    c.loop-number.number has.0
-    (search rules) c.requires.entry.high (omega arith) (c.loop-number.invariant.stays.busy ∙ c.requires.idle) c.loop-number.invariant.setting (c.collect_file.ensures.setting ∙ c.loop-number.invariant.setting) c.requires.single has.1
-    (c.in_ok-goes_on.ensures.gathers (events ++ map (offer_of c.args.entry) has.0)
-    (now_gathering c.args.core.now.setting c.args.task.now c.args.base.now c.args.many c.args.entry (told c.args.folder.now) (told c.loop-number.folder) c.loop-number.core events c.args.kept.now.items c.loop-number.kept.items c.args.candidates.now.items c.loop-number.candidates.items c.loop-number.number has.0 has.1))
-
-pub returns-clause-gathers : goal.returns-clause-gathers
-returns-clause-gathers g c events gathering =
-    let told = g.F.Folder.told in
-    let has = c.loop-number.invariant.collected events gathering in
-    ends_last tt c.args.core.now.setting c.args.task.now c.args.base.now c.args.many c.args.entry (told c.args.folder.now) (told c.loop-number.folder) c.loop-number.core events
-    c.args.kept.now.items c.loop-number.kept.items c.args.candidates.now.items c.loop-number.candidates.items c.loop-number.number has.0
-    (omega arith) has.1
-
-pub returns-in_err-goes_on-clause-plans : goal.returns-in_err-goes_on-clause-plans
-returns-in_err-goes_on-clause-plans g c =
-    adds_then c.args.task.now c.args.kept.now.items c.loop-number.kept.items c.collect_file.new.kept.items c.loop-number.invariant.plans c.collect_file.ensures.plans
-
-pub returns-then-not-goes_on-clause-plans : goal.returns-then-not-goes_on-clause-plans
-returns-then-not-goes_on-clause-plans g c =
-    adds_then c.args.task.now c.args.kept.now.items c.loop-number.kept.items c.collect_file.new.kept.items c.loop-number.invariant.plans c.collect_file.ensures.plans
-
-pub collect_file-requires-clause-idle : goal.collect_file-requires-clause-idle
-collect_file-requires-clause-idle g c = c.loop-number.invariant.stays.busy ∙ c.requires.idle
-
-pub returns-in_err-goes_on-clause-stays : goal.returns-in_err-goes_on-clause-stays
-returns-in_err-goes_on-clause-stays g c =
-    let told = g.F.Folder.told in
-    stays_then (told c.args.folder.now) (told c.loop-number.folder) (told c.collect_file.new.folder) c.loop-number.invariant.stays c.collect_file.ensures.stays
-
-pub returns-then-not-goes_on-clause-stays : goal.returns-then-not-goes_on-clause-stays
-returns-then-not-goes_on-clause-stays g c =
-    let told = g.F.Folder.told in
-    stays_then (told c.args.folder.now) (told c.loop-number.folder) (told c.collect_file.new.folder) c.loop-number.invariant.stays c.collect_file.ensures.stays
+    let turn = turn_of c.args.round c.args.entry in
+    let a = standing (told c.args.folder.now) c.args.core.now c.args.kept.now.items c.args.candidates.now.items in
+    let b = standing (told c.loop-number.folder) c.loop-number.core c.loop-number.kept.items c.loop-number.candidates.items in
+    let has = c.loop-number.invariant.collected events is in
+    ends_last c.args.task.now c.args.base.now c.args.many turn events a b c.loop-number.number has.0 (omega arith) has.1
