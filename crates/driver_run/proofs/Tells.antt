@@ -65,4 +65,4 @@ told_when_solved held parts task why.Finished tells is ends = (tells.0, parts, t
 told_when_solved held parts task (why.Words fault) tells is ends = let k : why.Words fault ≡ why.Finished = ends (λ e. cc) in cc
 told_when_solved held parts task (why.NoFile input) tells is ends = let k : why.NoFile input ≡ why.Finished = ends (λ e. cc) in cc
 told_when_solved held parts task (why.Task fault) tells is ends = let k : why.Task fault ≡ why.Finished = ends (λ e. cc) in cc
-told_when_solved held parts task why.Fault tells is ends = tt
+told_when_solved held parts task why.Fault tells is ends = rw is (tells.0, tells.1, tells.2)

@@ -7,7 +7,7 @@ use Rattle.driver_run.specs.declared.entry.Solved.{Solved}
 use Rattle.driver_run.specs.declared.report.Report.{Report}
 use Rattle.driver_run.specs.declared.report.EntryEnd.{EntryEnd}
 use Rattle.driver_run.specs.declared.report.Why.TheVariants.{Finished, Fault}
-use Rattle.driver_run.specs.Reports.{KeepsPlans, EndsAs, code_of}
+use Rattle.driver_run.specs.Reports.{IsAccepted, KeepsPlans, EndsAs, code_of}
 use Rattle.driver_run.specs.RunEvents.{TellsEvents}
 
 -- the report of a run that finished
@@ -52,6 +52,7 @@ pub record AsksOnce (before now : ℕ) (told_before told_now : Option (List ℕ)
 -- What a report tells of a run that began at this moment.
 pub record IsRunReport (moment : ℕ) (report : Report) : Type 0 where
   pub start : report.start ≡ moment
+  pub accepted : IsAccepted report.why
   pub plans : KeepsPlans report
   pub ends : EndsAs report report.ends
   pub events : TellsEvents report
@@ -63,4 +64,4 @@ pub record AsksFrom (start now : ℕ) (told_before told_now : Option (List ℕ))
   pub begins : (k : ℕ) (end : EntryEnd) → slice_get report.ends k ≡ Some end → (start ≤ end.began) × (end.began ≤ now)
   pub answers : (all : List ℕ) → told_now ≡ Some all → (past : List ℕ) × (entry : List ℕ)
       × (told_before ≡ Some past) × (all ≡ past ++ entry) × (length entry ≤ 1)
-      × (report.why ≡ Finished → entry ≡ map (λ (end : EntryEnd). end.began) report.ends)
+      × (report.why ≢ Fault → entry ≡ map (λ (end : EntryEnd). end.began) report.ends)

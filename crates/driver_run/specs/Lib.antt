@@ -3,3 +3,4 @@ pub mod Leaves
 pub mod Reports
 pub mod RunEvents
 pub mod Words
+pub mod Runs

@@ -1,5 +1,5 @@
 -- What a report tells.
-use Rattle.std.specs.Prelude.{◌≡◌, ◌≢◌, ℕ, ◌≤◌, nat_lt, List, [], ◌∷◌, length, map, slice_get, take, Option, Some, None, Result, Ok, Err}
+use Rattle.std.specs.Prelude.{◌≡◌, ◌≢◌, ℕ, ◌≤◌, nat_lt, List, [], ◌∷◌, length, map, slice_get, take, Option, Some, None, IfSome, Result, Ok, Err}
 use Rattle.std.specs.List.{filter_map, range_with_len}
 use Rattle.sas_task.specs.declared.contents.Parts.{Parts}
 use Rattle.sas_task.specs.declared.plans.Kept.{Kept}
@@ -37,18 +37,26 @@ IfDone ended.NoMemory P = Unit {0}
 abbrev pub refusal : WordsFault → Report
 refusal fault = record { task = None; kept = []; candidates = []; ends = []; start = 0; why = why.Words fault; code = 36 }
 
+-- the words were accepted
+abbrev pub IsAccepted : Why → Type 0
+IsAccepted why.Finished = Unit {0}
+IsAccepted (why.Words fault) = ⊥
+IsAccepted (why.NoFile input) = Unit {0}
+IsAccepted (why.Task bad) = Unit {0}
+IsAccepted why.Fault = Unit {0}
+
 -- what the bytes of a task's file give: the task whose text they are, or their first fault; of a file that is too long it is that of as many bytes as are read of it
 abbrev pub task_in : List ℕ → Result Parts SasFault
 task_in bytes = task_of (take 268435457 bytes)
 
--- What the report says of what the named file held, where no call failed: that it isn't there, its first fault, or
--- the task that it is the text of.
+-- What the report says of what the named file held: that it isn't there, its first fault, or the task that it is the
+-- text of. Where a call failed, the report has that task, or none.
 abbrev pub TellsTask : Option (List ℕ) → Option Parts → Why → Type 0
 TellsTask held task why.Finished = (bytes : List ℕ) × (parts : Parts) × (held ≡ Some bytes) × (task ≡ Some parts) × (task_in bytes ≡ Ok parts)
 TellsTask held task (why.NoFile input) = (held ≡ None) × (task ≡ None)
 TellsTask held task (why.Task fault) = (bytes : List ℕ) × (held ≡ Some bytes) × (task ≡ None) × (task_in bytes ≡ Err fault)
 TellsTask held task (why.Words fault) = ⊥
-TellsTask held task why.Fault = Unit {0}
+TellsTask held task why.Fault = IfSome task (λ parts. (bytes : List ℕ) × (held ≡ Some bytes) × (task_in bytes ≡ Ok parts))
 
 -- a plan of the task, found by the one entry, with its cost
 pub record IsKept (task : Option Parts) (kept : Kept) : Type 0 where

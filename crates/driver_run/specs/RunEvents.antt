@@ -1,5 +1,5 @@
 -- A run as a list of events, and what it asked of the clock.
-use Rattle.std.specs.Prelude.{◌≡◌, ℕ, ◌≤◌, Bool, true, false, nat_eq, List, [], ◌∷◌, ◌++◌, length, map, filter, slice_get, Option, Some, None, option_map}
+use Rattle.std.specs.Prelude.{◌≡◌, ◌≢◌, ℕ, ◌≤◌, Bool, true, false, nat_eq, List, [], ◌∷◌, ◌++◌, length, map, filter, slice_get, Option, Some, None, option_map}
 use Rattle.std.specs.List.{flat_map}
 use Rattle.sas_task.specs.declared.plans.Kept.{Kept}
 use Rattle.driver_core.specs.declared.events.Event.{Event}
@@ -59,10 +59,10 @@ pub record TellsEvents (report : Report) : Type 0 where
   pub over : report.why ≡ why.Finished → is_over_after (setting_of report) (events_of report) ≡ true
   pub code : report.why ≡ why.Finished → report.code ≡ code_of (setting_of report) (events_of report)
 
--- The clock is asked as the run begins and as its entry does, and its answers are those of the report.
+-- The clock is asked as the run begins and as its entry does, and its answers are those of the report. Where no call failed it is asked no more.
 pub record AsksClock (before now : ℕ) (told_before told_now : Option (List ℕ)) (report : Report) : Type 0 where
   pub start : before ≤ report.start
   pub begins : (k : ℕ) (end : EntryEnd) → slice_get report.ends k ≡ Some end → (report.start ≤ end.began) × (end.began ≤ now)
   pub answers : (all : List ℕ) → told_now ≡ Some all → (past : List ℕ) × (entry : List ℕ)
       × (told_before ≡ Some past) × (all ≡ past ++ report.start ∷ entry) × (length entry ≤ 1)
-      × (report.why ≡ why.Finished → entry ≡ map (λ (end : EntryEnd). end.began) report.ends)
+      × (report.why ≢ why.Fault → entry ≡ map (λ (end : EntryEnd). end.began) report.ends)

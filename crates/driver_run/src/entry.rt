@@ -2,7 +2,7 @@
 ghost use Rattle.std.specs.Prelude.{◌≡◌, ◌≢◌, ◌≤◌, [], ◌∷◌, ◌++◌, ℕ, List, IfOk, IfSome, Some, None};
 ghost use Rattle.lama_host.specs.Folder.{Rose};
 ghost use Rattle.plan_manager.specs.Family.{SameOutside};
-ghost use Rattle.lama_host.specs.Steps.{Leaves};
+ghost use Rattle.lama_host.specs.Steps.{Leaves, Stays};
 ghost use Rattle.sas_task.specs.declared.contents.Parts.{Parts as TheParts};
 ghost use Rattle.plain_search.specs.Spaces.{IsExhausted};
 ghost use Rattle.sas_task.specs.Runs.{IsPlanOf};
@@ -132,8 +132,7 @@ fn keep_plan<F: Folder>(
     requires time { times.start ≤ times.began }
     requires setting { core.setting ≡ set_at times.start }
     requires stands { StandsFor core (TheEvent.Began 1 1 times.began ∷ []) }
-    ensures busy { IfOk result (λ _. (F.told folder.new).busy ≡ []) }
-    ensures later { (F.told folder.old).faults ≤ (F.told folder.new).faults }
+    ensures stays { Stays (F.told folder.old) (F.told folder.new) }
     ensures fault { IfOk result (λ solved. solved ≡ None → Rose (F.told folder.old).faults (F.told folder.new).faults) }
     ensures outside { IfOk result (λ solved. solved ≢ None → Leaves (F.told folder.old) (F.told folder.new) (SameOutside base_name)) }
     ensures solved { IfOk result (λ solved. IfSome solved (IsSolved task.now times)) }
@@ -202,8 +201,7 @@ fn solve<F: Folder>(
     requires idle { (F.told folder.old).busy ≡ [] }
     requires base { base.now ≡ base_name }
     requires time { times.start ≤ times.began }
-    ensures busy { IfOk result (λ _. (F.told folder.new).busy ≡ []) }
-    ensures later { (F.told folder.old).faults ≤ (F.told folder.new).faults }
+    ensures stays { Stays (F.told folder.old) (F.told folder.new) }
     ensures fault { IfOk result (λ solved. solved ≡ None → Rose (F.told folder.old).faults (F.told folder.new).faults) }
     ensures outside { IfOk result (λ solved. solved ≢ None → Leaves (F.told folder.old) (F.told folder.new) (SameOutside base_name)) }
     ensures solved { IfOk result (λ solved. IfSome solved (IsSolved task.now times)) }
@@ -229,7 +227,7 @@ fn finish<F: Folder>(
     requires idle { (F.told folder.old).busy ≡ [] }
     requires base { base.now ≡ base_name }
     requires solved { IsSolved task times solved }
-    ensures later { (F.told folder.old).faults ≤ (F.told folder.new).faults }
+    ensures stays { Stays (F.told folder.old) (F.told folder.new) }
     ensures fault { result.why ≡ Why.Fault → Rose (F.told folder.old).faults (F.told folder.new).faults }
     ensures leaves { result.why ≢ Why.Fault → Leaves (F.told folder.old) (F.told folder.new) (LeavesPlans (Some task) result.kept) }
     ensures report { IsEntryReport task times result }
@@ -266,7 +264,7 @@ pub fn run_entry<F: Folder, C: Clock>(
     requires idle { (F.told folder.old).busy ≡ [] }
     requires base { base.now ≡ base_name }
     requires start { start ≤ C.last clock.old }
-    ensures later { (F.told folder.old).faults ≤ (F.told folder.new).faults }
+    ensures stays { Stays (F.told folder.old) (F.told folder.new) }
     ensures fault { IfOk result (λ report. report.why ≡ Why.Fault → Rose (F.told folder.old).faults (F.told folder.new).faults) }
     ensures leaves { IfOk result (λ report. report.why ≢ Why.Fault → Leaves (F.told folder.old) (F.told folder.new) (LeavesPlans report.task report.kept)) }
     ensures report { IfOk result (λ report. (began : ℕ) × IsEntryReport task (record { start = start; began = began }) report × AsksOnce (C.last clock.old) (C.last clock.new) (C.answers clock.old) (C.answers clock.new) began) }

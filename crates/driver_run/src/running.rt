@@ -3,13 +3,14 @@ ghost use Rattle.std.specs.Prelude.{◌≡◌, ◌≢◌, ◌≤◌, [], ℕ, Li
 ghost use Rattle.std.specs.FinMap.{get};
 ghost use Rattle.lama_host.specs.Folder.{WhereTold, Rose};
 ghost use Rattle.plan_manager.specs.Clearing.{IsCleared};
-ghost use Rattle.lama_host.specs.Steps.{Leaves};
+ghost use Rattle.lama_host.specs.Steps.{Leaves, Stays};
 ghost use Rattle.driver_run.specs.Leaves.{LeavesPlans};
-ghost use Rattle.driver_run.specs.Reports.{IfDone, refusal, TellsTask, KeepsPlans, EndsAs, code_of, task_code as the_task_code};
-ghost use Rattle.driver_run.specs.RunEvents.{TellsEvents, AsksClock};
+ghost use Rattle.driver_run.specs.Reports.{TellsTask, task_code as the_task_code};
+ghost use Rattle.driver_run.specs.RunEvents.{AsksClock};
 ghost use Rattle.driver_run.specs.Entries.{IsRunReport, AsksFrom};
 ghost use Rattle.driver_run.specs.declared.report.WordsFault.{WordsFault as TheWordsFault};
 ghost use Rattle.driver_run.specs.Words.{line_of, is_own_name, base_name};
+ghost use Rattle.driver_run.specs.Runs.{IsRun};
 
 use crate::entry::{run_entry, stopped};
 use crate::report::{Ended, Input, Report, Why};
@@ -44,7 +45,7 @@ fn run_task<F: Folder, C: Clock>(
     requires base { base.now ≡ base_name }
     requires cleared { Leaves (F.told folder.old) (F.told folder.old) (λ _ files. IsCleared base_name files) }
     requires start { start ≡ C.last clock.old }
-    ensures later { (F.told folder.old).faults ≤ (F.told folder.new).faults }
+    ensures stays { Stays (F.told folder.old) (F.told folder.new) }
     ensures fault { IfOk result (λ report. report.why ≡ Why.Fault → Rose (F.told folder.old).faults (F.told folder.new).faults) }
     ensures leaves { IfOk result (λ report. report.why ≢ Why.Fault → Leaves (F.told folder.old) (F.told folder.new) (LeavesPlans report.task report.kept)) }
     ensures task { WhereTold (F.told folder.old) (λ files. IfOk result (λ report. TellsTask (get files name.now) report.task report.why)) }
@@ -78,6 +79,7 @@ fn run_accepted<F: Folder, C: Clock>(
 ) -> Result<Report, NoMemory>
     requires idle { (F.told folder.old).busy ≡ [] }
     requires name { is_own_name base_name name.now ≡ false }
+    ensures stays { Stays (F.told folder.old) (F.told folder.new) }
     ensures fault { IfOk result (λ report. report.why ≡ Why.Fault → Rose (F.told folder.old).faults (F.told folder.new).faults) }
     ensures files { IfOk result (λ report. report.why ≢ Why.Fault → Leaves (F.told folder.old) (F.told folder.new) (LeavesPlans report.task report.kept)) }
     ensures task { WhereTold (F.told folder.old) (λ files. IfOk result (λ report. TellsTask (get files name.now) report.task report.why)) }
@@ -111,18 +113,9 @@ pub fn run<H: Host, C: Clock, O: Sink>(
 ) -> Ended
     requires { (H.told host.old).busy ≡ [] }
     ensures refused { (fault : TheWordsFault) → line_of (map string_bytes words.now) ≡ Err fault →
-        (result ≡ Ended.Done (refusal fault)) × (host.new ≡ host.old) × (clock.new ≡ clock.old) }
-    ensures request { (name : List ℕ) → line_of (map string_bytes words.now) ≡ Ok name →
-        WhereTold (H.told host.old) (λ files. IfDone result (λ report. TellsTask (get files name) report.task report.why)) }
-    ensures plans { IfDone result KeepsPlans }
-    ensures files { (name : List ℕ) → line_of (map string_bytes words.now) ≡ Ok name →
-        IfDone result (λ report. report.why ≢ Why.Fault → Leaves (H.told host.old) (H.told host.new) (LeavesPlans report.task report.kept)) }
-    ensures events { IfDone result TellsEvents }
-    ensures ends { IfDone result (λ report. EndsAs report report.ends) }
-    ensures code { IfDone result (λ report. report.code ≡ code_of report.why report.kept report.ends) }
-    ensures fault { IfDone result (λ report. report.why ≡ Why.Fault → Rose (H.told host.old).faults (H.told host.new).faults) }
-    ensures clock { (name : List ℕ) → line_of (map string_bytes words.now) ≡ Ok name →
-        IfDone result (AsksClock (C.last clock.old) (C.last clock.new) (C.answers clock.old) (C.answers clock.new)) }
+        (host.new ≡ host.old) × (clock.new ≡ clock.old) }
+    ensures run { IsRun (map string_bytes words.now) (H.told host.old) (H.told host.new)
+        (C.last clock.old) (C.last clock.new) (C.answers clock.old) (C.answers clock.new) result }
     ensures quiet { out.new ≡ out.old }
 {
     match request(words) {

@@ -2,4 +2,8 @@
 #![tactic(auto)]
 
 #[cfg(test)]
-mod tests;
+mod folders;
+#[cfg(test)]
+mod runs;
+#[cfg(test)]
+mod words;

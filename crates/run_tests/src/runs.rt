@@ -1,0 +1,140 @@
+// Runs on small tasks.
+use crate::folders::{folder, has, is_sealed, report_of};
+use candidates::Found;
+use driver_run::{EntryEnd, Input, Outcome, Report, Why};
+use host_mem::HostCall;
+use lama_num::NoMemory;
+use sas_reader::SasFault;
+use std::alloc::Global;
+use std::test::Fail;
+use test_tasks::{
+    at_the_goal, cut_short, door, no_operator, rivals, swap, three_places, two_layers, wide_derived,
+};
+
+/// The text of the plan of one jump: 33 bytes.
+fn jump() -> &'static str {
+    "(jump)\n; cost = 5 (general cost)\n"
+}
+
+/// Whether a run on a task ends so, and leaves this plan and the task.
+fn ends_with(
+    alloc: Global,
+    task: Option<&str>,
+    code: u8,
+    why: Why,
+    plan: Option<&str>,
+) -> Result<bool, NoMemory> {
+    let mut host = folder(alloc, task, None)?;
+    let report = report_of(alloc, &["t.sas"], &mut host)?;
+    let left = is_sealed(&host, plan) && has(&host, "t.sas", task);
+    Ok(report.code == code && report.why == why && left)
+}
+
+/// Whether a task is solved by the plan of this text.
+fn is_solved(alloc: Global, task: &str, plan: &str) -> Result<bool, NoMemory> {
+    ends_with(alloc, Some(task), 0, Why::Finished, Some(plan))
+}
+
+#[test]
+fn tasks_are_solved(rt: HostRuntime) -> Result<(), Fail> {
+    let alloc = rt.alloc();
+    assert!(rt; jump().len() == 33 && is_solved(alloc, three_places(), jump())?);
+    assert!(rt; is_solved(alloc, two_layers(), "(flip)\n; cost = 1 (unit cost)\n")?);
+    assert!(rt; is_solved(alloc, swap(), "(swap)\n; cost = 1 (unit cost)\n")?);
+    assert!(rt; is_solved(alloc, door(), "(walk)\n(shut)\n; cost = 2 (unit cost)\n")?);
+    assert!(rt; is_solved(alloc, at_the_goal(), "; cost = 0 (unit cost)\n")?);
+    Ok(())
+}
+
+#[test]
+fn other_runs_leave_no_plan(rt: HostRuntime) -> Result<(), Fail> {
+    let alloc = rt.alloc();
+    let cut = Why::Task(SasFault::CutShort { line: 21 });
+    let wide = Why::Task(SasFault::WideDerived { var: 0 });
+    assert!(rt; ends_with(alloc, Some(no_operator()), 11, Why::Finished, None)?);
+    assert!(rt; ends_with(alloc, Some(rivals()), 11, Why::Finished, None)?);
+    assert!(rt; ends_with(alloc, Some(cut_short()), 33, cut, None)?);
+    assert!(rt; ends_with(alloc, Some(wide_derived()), 34, wide, None)?);
+    assert!(rt; ends_with(alloc, None, 36, Why::NoFile(Input::Task), None)?);
+    Ok(())
+}
+
+/// The report of a run on a task.
+fn report_on(alloc: Global, task: &str) -> Result<Report, NoMemory> {
+    let mut host = folder(alloc, Some(task), None)?;
+    report_of(alloc, &["t.sas"], &mut host)
+}
+
+/// How many states the one end has in its space, where it is Unsolvable.
+fn states_of(ends: &[EntryEnd]) -> Option<u32> {
+    match ends {
+        [end] => match &end.outcome {
+            Outcome::Unsolvable { space } => Some(space.len()),
+            Outcome::Over => None,
+        },
+        _ => None,
+    }
+}
+
+/// Whether the one plan kept is these operators at that cost.
+fn is_kept(report: &Report, ops: &[u32], cost: u64) -> bool {
+    match report.kept.as_slice() {
+        [kept] => kept.ops.as_slice() == ops && kept.cost == cost,
+        _ => false,
+    }
+}
+
+/// Whether the one candidate is a plan of this process that was kept.
+fn is_own_plan(report: &Report) -> bool {
+    match report.candidates.as_slice() {
+        [candidate] => {
+            candidate.entry == 1
+                && candidate.file.is_none()
+                && matches!(&candidate.found, Found::Kept { index: 0 })
+        }
+        _ => false,
+    }
+}
+
+/// Whether the one entry began at this moment, and was over.
+fn is_over(ends: &[EntryEnd], began: u64) -> bool {
+    match ends {
+        [end] => end.entry == 1 && end.began == began && matches!(&end.outcome, Outcome::Over),
+        _ => false,
+    }
+}
+
+#[test]
+fn reports_tell_what_happened(rt: HostRuntime) -> Result<(), Fail> {
+    let report = report_on(rt.alloc(), three_places())?;
+    assert!(rt; is_kept(&report, &[2], 5) && is_own_plan(&report));
+    assert!(rt; report.start == 7 && is_over(&report.ends, 9));
+    let report = report_on(rt.alloc(), door())?;
+    assert!(rt; is_kept(&report, &[0, 1], 2));
+    let report = report_on(rt.alloc(), at_the_goal())?;
+    assert!(rt; is_kept(&report, &[], 0));
+    let report = report_on(rt.alloc(), no_operator())?;
+    assert!(rt; report.kept.is_empty() && report.candidates.is_empty());
+    assert!(rt; states_of(&report.ends) == Some(1));
+    let report = report_on(rt.alloc(), rivals())?;
+    assert!(rt; states_of(&report.ends) == Some(3));
+    Ok(())
+}
+
+/// Whether a run is a fault, and leaves no plan, where the first call of a kind fails.
+fn is_fault(alloc: Global, call: HostCall) -> Result<bool, NoMemory> {
+    let mut host = folder(alloc, Some(three_places()), Some(call))?;
+    let report = report_of(alloc, &["t.sas"], &mut host)?;
+    let told = report.code == 35 && report.why == Why::Fault;
+    Ok(told && !has(&host, "sas_plan", Some(jump())))
+}
+
+#[test]
+fn calls_of_the_folder_may_fail(rt: HostRuntime) -> Result<(), Fail> {
+    assert!(rt; is_fault(rt.alloc(), HostCall::ReadSome)?);
+    assert!(rt; is_fault(rt.alloc(), HostCall::Create)?);
+    assert!(rt; is_fault(rt.alloc(), HostCall::Append)?);
+    assert!(rt; is_fault(rt.alloc(), HostCall::Rename)?);
+    assert!(rt; is_fault(rt.alloc(), HostCall::Remove)?);
+    Ok(())
+}
