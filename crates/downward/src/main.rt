@@ -1,7 +1,8 @@
 //! The planner as a program: `downward TASK`.
 //!
-//! The words of the command line go to the top call, over the current folder and standard output. The
-//! exit status is the report's code; 40 where memory was wanting; 35 where the words can't be had.
+//! The words of the command line go to the top call, over the current folder and standard output.
+//! The exit status is the report's code; 40 where memory was wanting; 35 where the words can't be
+//! had.
 #![tactic(auto)]
 
 ghost use Rattle.std.specs.Prelude.{◌≡◌, [], IfOk, OnErr, drop, map, string_bytes};
@@ -55,7 +56,8 @@ fn plan<H: Host, C: Clock, O: Sink>(
     out: &mut O,
 ) -> ExitCode
     requires { (H.told host.old).busy ≡ [] }
-    ensures lost { OnErr words ((exit_status result ≡ 35) × (host.new ≡ host.old) × (clock.new ≡ clock.old)) }
+    ensures lost { OnErr words ((exit_status result ≡ 35)
+        × (host.new ≡ host.old) × (clock.new ≡ clock.old)) }
     ensures run { IfOk words (λ words. (ended : TheEnded) × (exit_status result ≡ status_of ended)
         × IsRun (map string_bytes words.items) (H.told host.old) (H.told host.new)
         (C.last clock.old) (C.last clock.new) (C.answers clock.old) (C.answers clock.new) ended) }

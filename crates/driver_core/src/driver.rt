@@ -1,5 +1,6 @@
 // The core: what a driver needs of all events so far.
-ghost use Rattle.std.specs.Prelude.{◌≡◌, ◌<◌, ◌≤◌, ℕ, true, false, List, [], ◌∷◌, ◌++◌, length, IfOk, IfSome};
+ghost use Rattle.std.specs.Prelude.{◌≡◌, ◌<◌, ◌≤◌, ℕ, true, false, IfOk, IfSome};
+ghost use Rattle.std.specs.Prelude.{List, [], ◌∷◌, ◌++◌, length};
 ghost use Rattle.std.specs.Option.{option_copied};
 ghost use Rattle.std.specs.List.{list_all, list_any};
 ghost use Rattle.driver_core.specs.Settings.{is_share, most_plans};
@@ -68,7 +69,8 @@ impl Core {
     ghost use Rattle.driver_core.specs.Ends.{code_of};
     ghost use Rattle.driver_core.specs.Standing.{StandsFor};
     ghost use Rattle.driver_core.specs.States.{is_done, is_at_end, accepts, all_codes};
-    ghost use Rattle.driver_core.specs.States.{state_after, answer_of, after_candidate, candidate_answer};
+    ghost use Rattle.driver_core.specs.States.{state_after, answer_of};
+    ghost use Rattle.driver_core.specs.States.{after_candidate, candidate_answer};
     ghost use Rattle.driver_core.specs.States.{in_round, with_plan, has_next, marks_in};
     ghost use Rattle.driver_core.specs.Standing.{is_after};
     ghost use Rattle.driver_core.specs.Rounds.{runs_in, share_of};
@@ -92,7 +94,14 @@ impl Core {
         requires few { length shares.now ≤ 1000 }
         requires each { list_all is_share shares.now ≡ true }
         ensures setting { IfOk result (λ core. core.setting
-            ≡ record { shares = shares.now; start = start; limit = limit; bound = bound; single = single; rounds = rounds }) }
+            ≡ record {
+              shares = shares.now;
+              start = start;
+              limit = limit;
+              bound = bound;
+              single = single;
+              rounds = rounds;
+            }) }
         ensures stands { IfOk result (λ core. StandsFor core []) }
     {
         let running = vec![in alloc; true; shares.len()]?;
@@ -126,9 +135,11 @@ impl Core {
     pub fn step(&mut self, event: Event) -> Action
         ensures setting { self.new.setting ≡ self.old.setting }
         ensures stands { (events : List Event) → StandsFor self.old events
-            → IsAllowed self.old.setting events event → StandsFor self.new (events ++ event ∷ []) }
+            → IsAllowed self.old.setting events event
+            → StandsFor self.new (events ++ event ∷ []) }
         ensures answers { (events : List Event) → StandsFor self.old events
-            → IsAllowed self.old.setting events event → result ≡ action_of self.old.setting events event }
+            → IsAllowed self.old.setting events event
+            → result ≡ action_of self.old.setting events event }
     {
         self.advance(event)
     }
@@ -239,14 +250,16 @@ impl Core {
         self.setting.rounds && any_marked(self.keepers.as_slice())
     }
 
-    /// Whether the run is over. Where it isn't, it hasn't been told to stop, and a plan more may be kept.
+    /// Whether the run is over. Where it isn't, it hasn't been told to stop, and a plan more may be
+    /// kept.
     pub fn is_over(&self) -> bool
         ensures over { (events : List Event) → StandsFor self.now events
             → result ≡ is_over_after self.now.setting events }
         ensures going { (events : List Event) → StandsFor self.now events
             → result ≡ false → has_stopped self.now.setting events ≡ false }
         ensures room { (events : List Event) → StandsFor self.now events
-            → result ≡ false → length (kept_costs self.now.setting events) < most_plans self.now.setting.single }
+            → result ≡ false
+            → length (kept_costs self.now.setting events) < most_plans self.now.setting.single }
     {
         self.is_done()
     }
@@ -256,7 +269,8 @@ impl Core {
         ensures bound { (events : List Event) → StandsFor self.now events
             → result ≡ bound_of self.now.setting events }
         ensures keeps { (events : List Event) → StandsFor self.now events
-            → is_over_after self.now.setting events ≡ false → (cost : ℕ) → is_kept self.now.setting events cost ≡ is_below result cost }
+            → is_over_after self.now.setting events ≡ false
+            → (cost : ℕ) → is_kept self.now.setting events cost ≡ is_below result cost }
     {
         self.bound
     }
@@ -296,7 +310,8 @@ impl Core {
 
     /// Whether an entry runs in a round. No turn of a later round may have begun.
     pub fn runs(&self, round: u32, entry: u32) -> bool
-        ensures { (events : List Event) → StandsFor self.now events → list_any (is_after round) events ≡ false
+        ensures { (events : List Event) → StandsFor self.now events
+            → list_any (is_after round) events ≡ false
             → result ≡ runs_in self.now.setting events round entry }
     {
         match self.marks(round) {
@@ -312,7 +327,8 @@ impl Core {
         requires first { 1 ≤ entry }
         requires last { entry ≤ length self.now.setting.shares }
         requires begun { self.now.setting.start ≤ moment }
-        ensures { (events : List Event) → StandsFor self.now events → list_any (is_after round) events ≡ false
+        ensures { (events : List Event) → StandsFor self.now events
+            → list_any (is_after round) events ≡ false
             → runs_in self.now.setting events round entry ≡ true
             → result ≡ share_of self.now.setting events round entry moment }
     {

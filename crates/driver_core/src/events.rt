@@ -1,7 +1,7 @@
 use exit_codes::Part;
 
-/// What a driver tells its core. Rounds and entries are numbered from 1. An entry has a turn in each
-/// round in which it runs, and the turns of one round may be on at the same time.
+/// What a driver tells its core. Rounds and entries are numbered from 1. An entry has a turn in
+/// each round in which it runs, and the turns of one round may be on at the same time.
 #[derive(Clone, Copy, Debug, PartialEq, Eq)]
 pub enum Event {
     /// A turn begins, at a moment in milliseconds.
@@ -16,8 +16,8 @@ pub enum Event {
         entry: u32,
         cost: Option<u64>,
     },
-    /// A turn that was on ended. `last` says that the others have nothing left to do: it proved that
-    /// no plan exists, or that its plan is best.
+    /// A turn that was on ended. `last` says that the others have nothing left to do: it proved
+    /// that no plan exists, or that its plan is best.
     Ended {
         round: u32,
         entry: u32,

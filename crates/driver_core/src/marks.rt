@@ -1,5 +1,6 @@
 // Marks: a list with one for each entry.
-ghost use Rattle.std.specs.Prelude.{◌≡◌, ◌-◌, ◌≤◌, true, false, length, replicate, slice_set, count_by};
+ghost use Rattle.std.specs.Prelude.{◌≡◌, ◌-◌, ◌≤◌, true, false};
+ghost use Rattle.std.specs.Prelude.{length, replicate, slice_set, count_by};
 ghost use Rattle.std.specs.List.{list_any};
 ghost use Rattle.driver_core.specs.States.{is_marked, has_mark_of};
 

@@ -26,8 +26,16 @@ pub fn actions(
     requires few { length shares.now ≤ 1000 }
     requires each { list_all is_share shares.now ≡ true }
     ensures { let setting : Setting =
-        record { shares = shares.now; start = start; limit = limit; bound = bound; single = single; rounds = rounds } in
-        IfOk result (λ actions. IsLegal setting events.now → actions.items ≡ actions_of setting events.now) }
+        record {
+          shares = shares.now;
+          start = start;
+          limit = limit;
+          bound = bound;
+          single = single;
+          rounds = rounds;
+        } in
+        IfOk result (λ actions. IsLegal setting events.now
+        → actions.items ≡ actions_of setting events.now) }
 {
     let mut core = Core::new(alloc, shares, start, limit, bound, single, rounds)?;
     let mut actions = Vec::with_capacity(alloc, events.len())?;

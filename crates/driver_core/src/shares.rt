@@ -5,14 +5,16 @@ ghost use Rattle.driver_core.specs.Settings.{is_share};
 ghost use Rattle.driver_core.specs.Rounds.{portion_of};
 ghost use Rattle.driver_core.specs.States.{marked_time};
 
-/// The portion of the entry at this place, by its relative time and those of the marked ones behind it.
+/// The portion of the entry at this place, by its relative time and those of the marked ones behind
+/// it.
 pub(crate) fn portion(left: u64, shares: &[u32], marks: &[bool], place: usize) -> u64
     requires within { place < length shares.now }
     requires same { length marks.now ≡ length shares.now }
     requires few { length shares.now ≤ 1000 }
     requires each { list_all is_share shares.now ≡ true }
-    ensures { result ≡ portion_of left (slice_index shares.now place)
-        (slice_index shares.now place + marked_time (drop (place + 1) shares.now) (drop (place + 1) marks.now)) }
+    ensures { let own = slice_index shares.now place in
+        let behind = marked_time (drop (place + 1) shares.now) (drop (place + 1) marks.now) in
+        result ≡ portion_of left own (own + behind) }
 {
     let own = u64::from(shares[place]);
     let all = own + total(&shares[place + 1..], &marks[place + 1..]);

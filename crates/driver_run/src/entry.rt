@@ -1,5 +1,6 @@
 // The one entry of a run: a search of this process.
-ghost use Rattle.std.specs.Prelude.{◌≡◌, ◌≢◌, ◌≤◌, [], ◌∷◌, ◌++◌, ℕ, List, IfOk, IfSome, Some, None};
+ghost use Rattle.std.specs.Prelude.{◌≡◌, ◌≢◌, ◌≤◌, ℕ, IfOk, IfSome, Some, None};
+ghost use Rattle.std.specs.Prelude.{List, [], ◌∷◌, ◌++◌};
 ghost use Rattle.lama_host.specs.Folder.{Rose};
 ghost use Rattle.plan_manager.specs.Family.{SameOutside};
 ghost use Rattle.lama_host.specs.Steps.{Leaves, Stays};
@@ -60,7 +61,15 @@ fn one<T: Drop>(alloc: Global, item: T) -> Result<Seq<T>, NoMemory>
 
 /// The report of a run that no entry ended.
 pub fn stopped(alloc: Global, task: Option<Task>, start: u64, why: Why, code: u8) -> Report
-    ensures { result ≡ record { task = task; kept = []; candidates = []; ends = []; start = start; why = why; code = code } }
+    ensures { result ≡ record {
+      task = task;
+      kept = [];
+      candidates = [];
+      ends = [];
+      start = start;
+      why = why;
+      code = code;
+    } }
 {
     Report {
         task,
@@ -75,7 +84,8 @@ pub fn stopped(alloc: Global, task: Option<Task>, start: u64, why: Why, code: u8
 
 /// The end of the entry, as a list.
 fn end_of(alloc: Global, times: Times, outcome: Outcome) -> Result<Seq<EntryEnd>, NoMemory>
-    ensures { IfOk result (λ ends. ends ≡ record { entry = 1; began = times.began; outcome = outcome } ∷ []) }
+    ensures { IfOk result (λ ends.
+        ends ≡ record { entry = 1; began = times.began; outcome = outcome } ∷ []) }
 {
     let end = EntryEnd {
         entry: ENTRY,
@@ -133,8 +143,10 @@ fn keep_plan<F: Folder>(
     requires setting { core.setting ≡ set_at times.start }
     requires stands { StandsFor core (TheEvent.Began 1 1 times.began ∷ []) }
     ensures stays { Stays (F.told folder.old) (F.told folder.new) }
-    ensures fault { IfOk result (λ solved. solved ≡ None → Rose (F.told folder.old).faults (F.told folder.new).faults) }
-    ensures outside { IfOk result (λ solved. solved ≢ None → Leaves (F.told folder.old) (F.told folder.new) (SameOutside base_name)) }
+    ensures fault { IfOk result (λ solved. solved ≡ None
+        → Rose (F.told folder.old).faults (F.told folder.new).faults) }
+    ensures outside { IfOk result (λ solved. solved ≢ None
+        → Leaves (F.told folder.old) (F.told folder.new) (SameOutside base_name)) }
     ensures solved { IfOk result (λ solved. IfSome solved (IsSolved task.now times)) }
 {
     let mut core = core;
@@ -177,7 +189,8 @@ fn give_up(alloc: Global, core: Core, times: Times, space: Space) -> Result<Solv
     requires time { times.start ≤ times.began }
     requires setting { core.setting ≡ set_at times.start }
     requires stands { StandsFor core (TheEvent.Began 1 1 times.began ∷ []) }
-    ensures solved { (parts : TheParts) → IsExhausted parts space → HasNoPlan parts → IfOk result (IsSolved parts times) }
+    ensures solved { (parts : TheParts) → IsExhausted parts space → HasNoPlan parts
+        → IfOk result (IsSolved parts times) }
 {
     let mut core = core;
     let ends = end_of(alloc, times, Outcome::Unsolvable { space })?;
@@ -202,8 +215,10 @@ fn solve<F: Folder>(
     requires base { base.now ≡ base_name }
     requires time { times.start ≤ times.began }
     ensures stays { Stays (F.told folder.old) (F.told folder.new) }
-    ensures fault { IfOk result (λ solved. solved ≡ None → Rose (F.told folder.old).faults (F.told folder.new).faults) }
-    ensures outside { IfOk result (λ solved. solved ≢ None → Leaves (F.told folder.old) (F.told folder.new) (SameOutside base_name)) }
+    ensures fault { IfOk result (λ solved. solved ≡ None
+        → Rose (F.told folder.old).faults (F.told folder.new).faults) }
+    ensures outside { IfOk result (λ solved. solved ≢ None
+        → Leaves (F.told folder.old) (F.told folder.new) (SameOutside base_name)) }
     ensures solved { IfOk result (λ solved. IfSome solved (IsSolved task.now times)) }
 {
     let core = begin(alloc, times)?;
@@ -228,8 +243,10 @@ fn finish<F: Folder>(
     requires base { base.now ≡ base_name }
     requires solved { IsSolved task times solved }
     ensures stays { Stays (F.told folder.old) (F.told folder.new) }
-    ensures fault { result.why ≡ Why.Fault → Rose (F.told folder.old).faults (F.told folder.new).faults }
-    ensures leaves { result.why ≢ Why.Fault → Leaves (F.told folder.old) (F.told folder.new) (LeavesPlans (Some task) result.kept) }
+    ensures fault { result.why ≡ Why.Fault
+        → Rose (F.told folder.old).faults (F.told folder.new).faults }
+    ensures leaves { result.why ≢ Why.Fault
+        → Leaves (F.told folder.old) (F.told folder.new) (LeavesPlans (Some task) result.kept) }
     ensures report { IsEntryReport task times result }
 {
     let Solved {
@@ -265,9 +282,14 @@ pub fn run_entry<F: Folder, C: Clock>(
     requires base { base.now ≡ base_name }
     requires start { start ≤ C.last clock.old }
     ensures stays { Stays (F.told folder.old) (F.told folder.new) }
-    ensures fault { IfOk result (λ report. report.why ≡ Why.Fault → Rose (F.told folder.old).faults (F.told folder.new).faults) }
-    ensures leaves { IfOk result (λ report. report.why ≢ Why.Fault → Leaves (F.told folder.old) (F.told folder.new) (LeavesPlans report.task report.kept)) }
-    ensures report { IfOk result (λ report. (began : ℕ) × IsEntryReport task (record { start = start; began = began }) report × AsksOnce (C.last clock.old) (C.last clock.new) (C.answers clock.old) (C.answers clock.new) began) }
+    ensures fault { IfOk result (λ report. report.why ≡ Why.Fault
+        → Rose (F.told folder.old).faults (F.told folder.new).faults) }
+    ensures leaves { IfOk result (λ report. report.why ≢ Why.Fault
+        → Leaves (F.told folder.old) (F.told folder.new) (LeavesPlans report.task report.kept)) }
+    ensures report { IfOk result (λ report. (began : ℕ)
+        × IsEntryReport task (record { start = start; began = began }) report
+        × AsksOnce (C.last clock.old) (C.last clock.new)
+        (C.answers clock.old) (C.answers clock.new) began) }
 {
     let began = clock.now();
     let times = Times { start, began };

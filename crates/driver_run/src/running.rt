@@ -1,5 +1,5 @@
 // The top call.
-ghost use Rattle.std.specs.Prelude.{◌≡◌, ◌≢◌, ◌≤◌, [], ℕ, List, IfOk, Ok, Err, map, string_bytes, false};
+ghost use Rattle.std.specs.Prelude.{◌≡◌, ◌≢◌, ◌≤◌, [], IfOk, Err, map, string_bytes, false};
 ghost use Rattle.std.specs.FinMap.{get};
 ghost use Rattle.lama_host.specs.Folder.{WhereTold, Rose};
 ghost use Rattle.plan_manager.specs.Clearing.{IsCleared};
@@ -43,14 +43,19 @@ fn run_task<F: Folder, C: Clock>(
 ) -> Result<Report, NoMemory>
     requires idle { (F.told folder.old).busy ≡ [] }
     requires base { base.now ≡ base_name }
-    requires cleared { Leaves (F.told folder.old) (F.told folder.old) (λ _ files. IsCleared base_name files) }
+    requires cleared { Leaves (F.told folder.old) (F.told folder.old)
+        (λ _ files. IsCleared base_name files) }
     requires start { start ≡ C.last clock.old }
     ensures stays { Stays (F.told folder.old) (F.told folder.new) }
-    ensures fault { IfOk result (λ report. report.why ≡ Why.Fault → Rose (F.told folder.old).faults (F.told folder.new).faults) }
-    ensures leaves { IfOk result (λ report. report.why ≢ Why.Fault → Leaves (F.told folder.old) (F.told folder.new) (LeavesPlans report.task report.kept)) }
-    ensures task { WhereTold (F.told folder.old) (λ files. IfOk result (λ report. TellsTask (get files name.now) report.task report.why)) }
+    ensures fault { IfOk result (λ report. report.why ≡ Why.Fault
+        → Rose (F.told folder.old).faults (F.told folder.new).faults) }
+    ensures leaves { IfOk result (λ report. report.why ≢ Why.Fault
+        → Leaves (F.told folder.old) (F.told folder.new) (LeavesPlans report.task report.kept)) }
+    ensures task { WhereTold (F.told folder.old) (λ files. IfOk result (λ report.
+        TellsTask (get files name.now) report.task report.why)) }
     ensures report { IfOk result (IsRunReport start) }
-    ensures clock { IfOk result (AsksFrom start (C.last clock.new) (C.answers clock.old) (C.answers clock.new)) }
+    ensures clock { IfOk result (AsksFrom start (C.last clock.new)
+        (C.answers clock.old) (C.answers clock.new)) }
 {
     match read_task(alloc, folder, name)? {
         TaskFile::Task(task) => run_entry(alloc, folder, clock, base, task, start),
@@ -80,11 +85,15 @@ fn run_accepted<F: Folder, C: Clock>(
     requires idle { (F.told folder.old).busy ≡ [] }
     requires name { is_own_name base_name name.now ≡ false }
     ensures stays { Stays (F.told folder.old) (F.told folder.new) }
-    ensures fault { IfOk result (λ report. report.why ≡ Why.Fault → Rose (F.told folder.old).faults (F.told folder.new).faults) }
-    ensures files { IfOk result (λ report. report.why ≢ Why.Fault → Leaves (F.told folder.old) (F.told folder.new) (LeavesPlans report.task report.kept)) }
-    ensures task { WhereTold (F.told folder.old) (λ files. IfOk result (λ report. TellsTask (get files name.now) report.task report.why)) }
+    ensures fault { IfOk result (λ report. report.why ≡ Why.Fault
+        → Rose (F.told folder.old).faults (F.told folder.new).faults) }
+    ensures files { IfOk result (λ report. report.why ≢ Why.Fault
+        → Leaves (F.told folder.old) (F.told folder.new) (LeavesPlans report.task report.kept)) }
+    ensures task { WhereTold (F.told folder.old) (λ files. IfOk result (λ report.
+        TellsTask (get files name.now) report.task report.why)) }
     ensures report { IfOk result (λ report. IsRunReport report.start report) }
-    ensures clock { IfOk result (AsksClock (C.last clock.old) (C.last clock.new) (C.answers clock.old) (C.answers clock.new)) }
+    ensures clock { IfOk result (AsksClock (C.last clock.old) (C.last clock.new)
+        (C.answers clock.old) (C.answers clock.new)) }
 {
     let start = clock.now();
     let base = base();
@@ -98,12 +107,12 @@ fn run_accepted<F: Folder, C: Clock>(
 ///
 /// The words are the name of one task file. The run takes the old plan files away, `sas_plan`,
 /// `sas_plan.1` to `sas_plan.9999` and `sas_plan.part`, reads the task, searches for a plan and
-/// writes it to `sas_plan.part`, which it renames to `sas_plan`; where no plan exists it says so. At
-/// its end the folder holds just the plans. Nothing is printed. Words that aren't accepted change
-/// nothing.
+/// writes it to `sas_plan.part`, which it renames to `sas_plan`; where no plan exists it says so.
+/// At its end the folder holds just the plans. Nothing is printed. Words that aren't accepted
+/// change nothing. All that is promised stands, fact by fact, in `specs/Runs.antt`.
 ///
-/// Where a call of the folder failed, or memory was wanting, the contract doesn't say what stands in
-/// the folder.
+/// Where a call of the folder failed, or memory was wanting, the contract doesn't say what stands
+/// in the folder.
 pub fn run<H: Host, C: Clock, O: Sink>(
     alloc: Global,
     words: &[String],

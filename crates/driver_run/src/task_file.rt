@@ -45,8 +45,10 @@ fn task_of(alloc: Global, bytes: &[u8]) -> Result<TaskFile, NoMemory>
 pub fn read_task<F: Folder>(alloc: Global, folder: &mut F, name: &str) -> Result<TaskFile, NoMemory>
     ensures untouched { IsUntouched (F.told folder.old) (F.told folder.new) }
     ensures later { (F.told folder.old).faults ≤ (F.told folder.new).faults }
-    ensures failed { result ≡ Ok TaskFile.Failed → Rose (F.told folder.old).faults (F.told folder.new).faults }
-    ensures tells { WhereTold (F.told folder.old) (λ files. IfOk result (TellsFile (get files name.now))) }
+    ensures failed { result ≡ Ok TaskFile.Failed
+        → Rose (F.told folder.old).faults (F.told folder.new).faults }
+    ensures tells { WhereTold (F.told folder.old) (λ files.
+        IfOk result (TellsFile (get files name.now))) }
 {
     match read_whole(alloc, folder, name, MOST_BYTES) {
         Err(ReadError::Failed) => Ok(TaskFile::Failed),

@@ -2,7 +2,14 @@
 ghost use Rattle.std.specs.Prelude.{◌≡◌, ◌<◌, map, string_bytes, not, nat_eq};
 ghost use Rattle.std.specs.List.{list_all};
 ghost use Rattle.std.specs.Result.{result_map_both};
-ghost use Rattle.driver_run.specs.Words.{line_of, task_name as the_task_name, is_task_name as task_name_test, begins_with_dash as dash_test, is_plan_number as number_test, begins_with_digit as first_digit_test, is_of_child as child_test, is_own_ending as ending_test, is_own_name as own_test, base_name};
+ghost use Rattle.driver_run.specs.Words.{line_of, task_name as the_task_name, base_name};
+ghost use Rattle.driver_run.specs.Words.{is_task_name as task_name_test};
+ghost use Rattle.driver_run.specs.Words.{begins_with_dash as dash_test};
+ghost use Rattle.driver_run.specs.Words.{is_plan_number as number_test};
+ghost use Rattle.driver_run.specs.Words.{begins_with_digit as first_digit_test};
+ghost use Rattle.driver_run.specs.Words.{is_of_child as child_test};
+ghost use Rattle.driver_run.specs.Words.{is_own_ending as ending_test};
+ghost use Rattle.driver_run.specs.Words.{is_own_name as own_test};
 
 use crate::report::WordsFault;
 use itoa::Buffer;
@@ -97,7 +104,8 @@ fn task_name(name: &str) -> Result<&str, WordsFault>
 /// The task's name that the words ask for, or what is wrong with them.
 #[tactic(auto, using(crate::proofs::OwnNames::refused, crate::proofs::OwnNames::one_word))]
 pub fn request(words: &[String]) -> Result<&str, WordsFault>
-    ensures { result_map_both (λ name. name.now) (λ fault. fault) result ≡ line_of (map string_bytes words.now) }
+    ensures { result_map_both (λ name. name.now) (λ fault. fault) result
+        ≡ line_of (map string_bytes words.now) }
 {
     if words.len() != 1 {
         return Err(WordsFault::Refused);

@@ -1,6 +1,7 @@
 // The one exit code of a whole run.
 ghost use Rattle.std.specs.Prelude.{◌≡◌};
-ghost use Rattle.exit_codes.specs.Combined.{combine_of, code_with_plan, code_without_plan, critical, single_critical};
+ghost use Rattle.exit_codes.specs.Combined.{combine_of, code_with_plan, code_without_plan};
+ghost use Rattle.exit_codes.specs.Combined.{critical, single_critical};
 
 use crate::sets::Codes;
 
