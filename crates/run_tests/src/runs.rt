@@ -88,7 +88,8 @@ fn is_kept(report: &Report, ops: &[u32], cost: u64) -> bool {
 fn is_own_plan(report: &Report) -> bool {
     match report.candidates.as_slice() {
         [candidate] => {
-            candidate.entry == 1
+            candidate.round == 1
+                && candidate.entry == 1
                 && candidate.file.is_none()
                 && matches!(&candidate.found, Found::Kept { index: 0 })
         }
