@@ -1,8 +1,7 @@
 // Lists of facts by number, each fact once.
 ghost use Rattle.std.specs.Prelude.{◌≡◌, ◌<◌, ◌≤◌, ◌++◌, ◌^◌, [], length, IsTrue, IfOk, OnOk};
 ghost use Rattle.std.specs.List.{list_all};
-ghost use Rattle.relaxed_task.specs.Numbers.{number_by, distinct};
-ghost use Rattle.relaxed_task.specs.Unaries.{is_below};
+ghost use Rattle.relaxed_task.specs.Numbers.{number_by, distinct, is_below};
 ghost use Rattle.relaxed_task.specs.Making.{AreMarked, with_one, with_all, has_number, have_numbers, all_numbers_by};
 
 use lama_num::Seq;

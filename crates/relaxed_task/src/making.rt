@@ -4,10 +4,8 @@ ghost use Rattle.std.specs.List.{list_all};
 ghost use Rattle.sas_task.specs.WellFormed.{fact_count, is_derived as derived};
 ghost use Rattle.sas_task.specs.States.{IsState};
 ghost use Rattle.sas_task.specs.Runs.{end_of, is_goal};
-ghost use Rattle.relaxed_task.specs.Numbers.{numbers_of};
-ghost use Rattle.relaxed_task.specs.Unaries.{numbered_unaries};
-ghost use Rattle.relaxed_task.specs.UnaryOperators.{distinct_facts};
-ghost use Rattle.relaxed_task.specs.NumberRounds.{defaults_of};
+ghost use Rattle.relaxed_task.specs.Facts.{default_facts, distinct_facts};
+ghost use Rattle.relaxed_task.specs.Numbers.{numbers_of, numbered_unaries};
 ghost use Rattle.relaxed_task.specs.Reached.{IsDead};
 ghost use Rattle.relaxed_task.specs.Relaxations.{IsOffsets, IsRelaxed};
 ghost use Rattle.relaxed_task.specs.Making.{AreMarked, have_numbers, effect_has_numbers, operator_has_numbers, rule_has_numbers, effect_by, rule_by, operators_by, defaults_by};
@@ -222,7 +220,7 @@ fn make_unaries(
 /// The default facts of derived variables.
 fn find_defaults(alloc: Global, task: &Task, offsets: &[u32]) -> Result<Vec<u32>, AllocError>
     requires { IsOffsets task.now.variables offsets.now }
-    ensures { IfOk result (λ defaults. defaults.items ≡ defaults_of task.now) }
+    ensures { IfOk result (λ defaults. defaults.items ≡ numbers_of task.now.variables (default_facts task.now)) }
 {
     let parts = task.parts();
     let defaults = make_defaults(alloc, offsets, &parts.variables, &parts.init)?;

@@ -4,8 +4,7 @@ ghost use Rattle.std.specs.List.{list_all};
 ghost use Rattle.sas_task.specs.WellFormed.{is_fact};
 ghost use Rattle.sas_task.specs.declared.contents.Parts.{Parts as TheParts};
 ghost use Rattle.sas_task.specs.declared.contents.CostKind.{CostKind as TheKind};
-ghost use Rattle.relaxed_task.specs.Numbers.{number_by, number_of, IsNumbered};
-ghost use Rattle.relaxed_task.specs.Unaries.{is_below, is_unary_below};
+ghost use Rattle.relaxed_task.specs.Numbers.{number_by, number_of, IsNumbered, is_below, is_unary_below};
 ghost use Rattle.relaxed_task.specs.Relaxations.{IsSound, IsRelaxed};
 
 use crate::unary::Unary;
