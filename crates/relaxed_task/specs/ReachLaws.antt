@@ -121,9 +121,6 @@ last_source state (e ∷ effects) var value x is = by_test (λ v h. last_source 
     later : Source state effects (fact_at var x) → Source state (e ∷ effects) (fact_at var x)
     later s = record { effect = s.effect; place = suc s.place; at = s.at; fires = s.fires; gives = s.gives }
 
-    rest_of : List ℕ
-    rest_of = given state effects var
-
     by_test : ((v : ℕ) → last_or v (given state effects var) ≡ x → (v ≡ x) ⊎ Source state effects (fact_at var x)) →
         (b : Bool) → (fires state e && nat_eq e.fact.var var) ≡ b → last_or value (map (λ e. e.fact.val) (if b then e ∷ filter (λ e. fires state e && nat_eq e.fact.var var) effects else filter (λ e. fires state e && nat_eq e.fact.var var) effects)) ≡ x →
         (value ≡ x) ⊎ Source state (e ∷ effects) (fact_at var x)
