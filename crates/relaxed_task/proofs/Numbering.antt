@@ -3,7 +3,8 @@ use Rattle.std.specs.Prelude.{◌≡◌, ℕ, ◌+◌, ◌<◌, List, [], ◌∷
 use Rattle.std.specs.List.{list_all, enumerate_from, flat_map}
 use Rattle.std.proofs.Common.{arith, refl, sym, ap, ◌∙◌}
 use Rattle.std.proofs.lemmas.List.{map-append}
-use Rattle.std.proofs.lemmas.List.Folds.{list_all-append}
+use Rattle.std.proofs.lemmas.Bool.{lt-ltb}
+use Rattle.std.proofs.lemmas.List.Folds.{list_all-append, list_all-map}
 use Rattle.std.proofs.lemmas.Bool.Decides.{nat_tests}
 use Rattle.lama_num.specs.Lists.{both}
 use Rattle.sas_task.specs.Costs.{adjusted_cost}
@@ -17,10 +18,11 @@ use Rattle.sas_task.specs.declared.contents.Operator.{Operator}
 use Rattle.sas_task.specs.declared.contents.Rule.{Rule}
 use Rattle.sas_task.specs.declared.contents.Parts.{Parts}
 use Rattle.relaxed_task.specs.declared.unary.Unary.{Unary}
-use Rattle.relaxed_task.specs.Facts.{fact_at, default_facts, UnaryOperator, distinct_facts, from_effect, from_rule}
-use Rattle.relaxed_task.specs.Numbers.{number_by, number_of, numbers_of, distinct, by_number, numbered_unaries}
-use Rattle.relaxed_task.specs.NumberLaws.{number_by-is, number_below, is_numbered, state_fact, numbers_same, by_pairs, defaults_there, distinct_numbers, weaker, effect_facts, operator_facts, rule_facts, operators_facts, rules_facts}
-use Rattle.relaxed_task.specs.Relaxations.{IsOffsets}
+use Rattle.relaxed_task.specs.Facts.{unary_operators, fact_at, default_facts, UnaryOperator, distinct_facts, from_effect, from_rule}
+use Rattle.relaxed_task.specs.Numbers.{number_by, number_of, numbers_of, distinct, by_number, numbered_unaries, is_unary_below}
+use Rattle.relaxed_task.specs.NumberLaws.{unary_there, unary_operators_there, goals_there, numbers_below, number_by-is, number_below, is_numbered, state_fact, numbers_same, by_pairs, defaults_there, distinct_numbers, weaker, effect_facts, operator_facts, rule_facts, operators_facts, rules_facts}
+use Rattle.relaxed_task.specs.Relaxations.{IsOffsets, IsRelaxed, IsSound}
+use Rattle.relaxed_task.specs.declared.relaxation.Lists.{Lists}
 use Rattle.relaxed_task.specs.Making.{has_number, have_numbers, effect_has_numbers, operator_has_numbers, rule_has_numbers, all_numbers_by, effect_by, rule_by, operator_by, operators_by, defaults_by}
 use Rattle.relaxed_task.specs.Elements.{join}
 
@@ -136,3 +138,21 @@ defaults_small parts offsets var formed is lt =
     let few = formed.few_facts in
     let same : slice_index offsets var + slice_index parts.init var ≡ number_of parts.variables (fact_at var (slice_index parts.init var)) = initial_number parts offsets var formed is lt in
     omega (arith, less, few, same)
+
+-- The relaxation of a task is sound.
+pub relaxed_sound : (parts : Parts) (kind : CostKind) (lists : Lists) → IsRelaxed parts kind lists → IsSound lists
+relaxed_sound parts kind lists is =
+    let formed = is.well_formed in
+    let few = formed.few_facts in
+    record {
+      few = omega (arith, few, is.facts);
+      unaries = rw (is.facts, is.unaries) (list_all-map (is_unary_below (fact_count parts.variables)) (by_number parts.variables) (unary_operators parts kind)
+          ∙ weaker (unary_there parts.variables) (λ u. is_unary_below (fact_count parts.variables) (by_number parts.variables u)) (unary_operators parts kind) below (unary_operators_there parts kind formed));
+      defaults = rw (is.facts, is.defaults) (numbers_below parts.variables (default_facts parts) (defaults_there parts formed));
+      goals = rw (is.facts, is.goals) (numbers_below parts.variables (distinct_facts parts.goal) (goals_there parts formed));
+    }
+  where
+    below : (u : UnaryOperator) → unary_there parts.variables u ≡ true → is_unary_below (fact_count parts.variables) (by_number parts.variables u) ≡ true
+    below u is =
+        let t = both (list_all (is_fact parts.variables) u.conds) (is_fact parts.variables u.gives) is in
+        join _ _ (numbers_below parts.variables u.conds t.0) (lt-ltb (number_of parts.variables u.gives) (fact_count parts.variables) (number_below parts.variables u.gives t.1))

@@ -5,7 +5,7 @@ use Rattle.std.specs.List.{list_all, list_any, enumerate_from, flat_map}
 use Rattle.std.proofs.lemmas.Bool.{and_from, and_parts, eqb-true, eq-eqb, lt-ltb, ltb-true}
 use Rattle.std.proofs.lemmas.List.{map-append}
 use Rattle.std.proofs.lemmas.List.Sums.{sum_by_more_le, sum_by-cons}
-use Rattle.std.proofs.lemmas.List.Folds.{list_all-append, list_all-map}
+use Rattle.std.proofs.lemmas.List.Folds.{list_all-append}
 use Rattle.std.proofs.lemmas.Option.{get_or_from_slice_get, slice_get_within}
 use Rattle.lama_num.specs.declared.estimates.Estimate.{Estimate}
 use Rattle.sas_task.specs.Facts.{same_fact}
@@ -24,8 +24,8 @@ use Rattle.relaxed_task.specs.declared.unary.Unary.{Unary}
 use Rattle.relaxed_task.specs.AdditiveCosts.{IsAdditiveCost}
 use Rattle.relaxed_task.specs.Facts.{fact_at, facts_of, facts_equal, default_facts, start_facts, over_facts, distinct_facts, UnaryOperator, from_effect, from_rule, unary_operators}
 use Rattle.relaxed_task.specs.NumberingLaws.{IsNumbering, HasPlan, are_there, sum_of_map, all_once, any_once, each_once_kept, cost_kept, plan_kept}
-use Rattle.relaxed_task.specs.Numbers.{number_by, number_of, numbers_by, numbers_of, costs_by, IsNumbered, over_numbers, distinct, by_number, numbered_unaries, is_below, is_unary_below}
-use Rattle.relaxed_task.specs.Relaxations.{IsOffsets, IsRelaxed, IsSound}
+use Rattle.relaxed_task.specs.Numbers.{number_by, number_of, numbers_by, numbers_of, costs_by, IsNumbered, over_numbers, distinct, by_number, numbered_unaries, is_below}
+use Rattle.relaxed_task.specs.Relaxations.{IsOffsets, IsRelaxed}
 use Rattle.relaxed_task.specs.Relaxing.{IsCost, IsSupported, sum_of}
 
 -- how many values a variable has
@@ -218,12 +218,9 @@ operators_facts parts formed = each_place (operator_facts parts.variables) parts
 pub rules_facts : (parts : Parts) → IsWellFormed parts → list_all (rule_facts parts.variables) parts.rules ≡ true
 rules_facts parts formed = each_place (rule_facts parts.variables) parts.rules (λ i rule at. let r = rule-at parts i rule formed at in and_from _ _ r.conds r.head)
 
-pub facts_within : (variables : List Variable) (facts : List Fact) → list_all (is_fact variables) facts ≡ true → list_all (λ fact. nat_lt fact.var (length variables)) facts ≡ true
-facts_within variables facts all = weaker (is_fact variables) (λ fact. nat_lt fact.var (length variables)) facts (λ fact is. lt-ltb fact.var (length variables) (fact_within variables fact is)) all
-
 -- and so are those of the unary operators
 
-abbrev unary_there : List Variable → UnaryOperator → Bool
+abbrev pub unary_there : List Variable → UnaryOperator → Bool
 unary_there variables = are_there over_facts (is_fact variables)
 
 effects_there : (parts : Parts) (kind : CostKind) (op : ℕ) (o : Operator) (effects : List Effect) → list_all (is_fact parts.variables) o.pre ≡ true → list_all (effect_facts parts.variables) effects ≡ true →
@@ -309,21 +306,3 @@ pub supported_by_facts : (parts : Parts) (kind : CostKind) (state : List ℕ) (v
 supported_by_facts parts kind state value numbers formed of is =
     plan_kept over_facts over_numbers (is_fact parts.variables) (number_of parts.variables) (by_number parts.variables) (numbering parts.variables)
     (unary_operators parts kind) (start_facts parts state) value (distinct_facts parts.goal) numbers (unary_operators_there parts kind formed) (start_there parts state formed of) (goals_there parts formed) is
-
--- The relaxation of a task is sound.
-pub relaxed_sound : (parts : Parts) (kind : CostKind) (lists : Lists) → IsRelaxed parts kind lists → IsSound lists
-relaxed_sound parts kind lists is =
-    let formed = is.well_formed in
-    let few = formed.few_facts in
-    record {
-      few = omega (arith, few, is.facts);
-      unaries = rw (is.facts, is.unaries) (list_all-map (is_unary_below (fact_count parts.variables)) (by_number parts.variables) (unary_operators parts kind)
-          ∙ weaker (unary_there parts.variables) (λ u. is_unary_below (fact_count parts.variables) (by_number parts.variables u)) (unary_operators parts kind) below (unary_operators_there parts kind formed));
-      defaults = rw (is.facts, is.defaults) (numbers_below parts.variables (default_facts parts) (defaults_there parts formed));
-      goals = rw (is.facts, is.goals) (numbers_below parts.variables (distinct_facts parts.goal) (goals_there parts formed));
-    }
-  where
-    below : (u : UnaryOperator) → unary_there parts.variables u ≡ true → is_unary_below (fact_count parts.variables) (by_number parts.variables u) ≡ true
-    below u is =
-        let t = and_parts (list_all (is_fact parts.variables) u.conds) (is_fact parts.variables u.gives) is in
-        and_from _ _ (numbers_below parts.variables u.conds t.0) (lt-ltb (number_of parts.variables u.gives) (fact_count parts.variables) (number_below parts.variables u.gives t.1))

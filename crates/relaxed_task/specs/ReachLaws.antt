@@ -10,8 +10,8 @@ use Rattle.lama_num.specs.Lists.{list_all_get}
 use Rattle.lama_num.specs.declared.estimates.Estimate.{Estimate}
 use Rattle.lama_num.specs.declared.estimates.Estimate.TheVariants.{Finite, Infinite}
 use Rattle.sas_task.specs.Facts.{same_fact}
-use Rattle.sas_task.specs.Laws.{init-state, goal-facts, operator-at, effect-tests, rule-at, step-by}
-use Rattle.sas_task.specs.Runs.{end_of, is_goal}
+use Rattle.sas_task.specs.Laws.{init-state, length-written, settled-stays, goal-facts, operator-at, effect-tests, rule-at, step-by, step-state}
+use Rattle.sas_task.specs.Runs.{end_of, is_goal, states_of}
 use Rattle.sas_task.specs.States.{IsState, holds, all_hold, fires, given, last_or, written, is_layer, as_effect, rules_of, round_of, rounds_of, size_of, settled_below, settled, default_or, reset, top_of, step}
 use Rattle.sas_task.specs.WellFormed.{IsWellFormed, is_fact, is_effect, layer_of, is_derived}
 use Rattle.sas_task.specs.declared.contents.CostKind.{CostKind}
@@ -231,38 +231,6 @@ are_plain parts facts = list_all (λ f. not (is_derived parts.variables f.var)) 
 pub record AllReached (parts : Parts) (from : List ℕ) (without : List Fact) (state : List ℕ) : Type 0 where
   pub each : (f : Fact) → is_fact parts.variables f ≡ true → holds state f ≡ true → IsReached parts from without f
 
--- settling leaves the variables that aren't derived
-module _ (parts : Parts) (f : Fact) (plain : is_derived parts.variables f.var ≡ false) where
-  of_layer : (layer : Option ℕ) (k : ℕ) → is_some layer ≡ false → is_layer layer k ≡ true → ⊥
-  of_layer None k none is = let clash : false ≡ true = is in absurd cc
-  of_layer (Some l) k none is = let clash : true ≡ false = none in absurd cc
-
-  rounds_leave : (layer n : ℕ) (state : List ℕ) → holds (rounds_of parts layer n state) f ≡ true → holds state f ≡ true
-  rounds_leave layer zero state h = h
-  rounds_leave layer (suc n) state h = elim (written_source (rounds_of parts layer n state) (rules_of parts.variables layer parts.rules) f h) [
-    | inl held ↦ rounds_leave layer n state held
-    | inr s ↦
-        let r = rule_source parts layer (rounds_of parts layer n state) f s in
-        absurd (of_layer (layer_of parts.variables r.rule.head.var) layer (ap (λ (g : Fact). is_derived parts.variables g.var) r.gives ∙ plain) r.of_layer)
-  ]
-
-  layers_leave : (layers : ℕ) (state : List ℕ) → holds (settled_below parts layers state) f ≡ true → holds state f ≡ true
-  layers_leave zero state h = h
-  layers_leave (suc layer) state h = layers_leave layer state (rounds_leave layer (size_of parts.variables layer) (settled_below parts layer state) h)
-
-  settling_leaves : (state : List ℕ) → holds (settled parts state) f ≡ true → holds state f ≡ true
-  settling_leaves state h = elim (reset_cases parts state f.var) [
-    | inl same ↦ eq-eqb _ _ (sym same ∙ eqb-true _ _ (layers_leave (top_of parts.variables) (reset parts state) h))
-    | inr d ↦ absurd (both_ways _ plain d.0)
-  ]
-
-settled_stays : (parts : Parts) (state : List ℕ) (var : ℕ) → is_derived parts.variables var ≡ false → slice_index (settled parts state) var ≡ slice_index state var
-settled_stays parts state var plain = sym (eqb-true _ _ (settling_leaves parts (fact_at var (slice_index (settled parts state) var)) plain state (eq-eqb (slice_index (settled parts state) var) _ refl)))
-
-abbrev pub states_of : Parts → List ℕ → List ℕ → Option (List (List ℕ))
-states_of parts state [] = Some (state ∷ [])
-states_of parts state (op ∷ ops) = option_and_then (λ next. option_map (λ states. state ∷ states) (states_of parts next ops)) (step parts state op)
-
 module _ (parts : Parts) (from : List ℕ) (without : List Fact) (formed : IsWellFormed parts) (of : IsState parts.variables from) (plain : are_plain parts without ≡ true) where
   abbrev reached : ℕ → Fact → Bool
   reached n = is_reached_in parts from without n
@@ -359,11 +327,13 @@ module _ (parts : Parts) (from : List ℕ) (without : List Fact) (formed : IsWel
   settled_reached state all = layers_reached (top_of parts.variables) (reset parts state) (reset_reached state all)
 
   -- A fact that a step gives is reached, if it is of no derived variable and not left out.
-  pub gained_reached : (state : List ℕ) (op : ℕ) (next : List ℕ) (f : Fact) → AllReached parts from without state → step parts state op ≡ Some next → is_fact parts.variables f ≡ true →
+  pub gained_reached : (state : List ℕ) (op : ℕ) (next : List ℕ) (f : Fact) → IsState parts.variables state → AllReached parts from without state → step parts state op ≡ Some next → is_fact parts.variables f ≡ true →
       holds next f ≡ true → is_derived parts.variables f.var ≡ false → has over_facts without f ≡ false → IsReached parts from without f
-  gained_reached state op next f all taken there h plain_var out =
+  gained_reached state op next f state_of all taken there h plain_var out =
       let by = step-by parts state op next taken in
-      let stays = settled_stays parts (written state by.operator.effects) f.var plain_var in
+      let long : length (written state by.operator.effects) ≡ length state = length-written state by.operator.effects in
+      let within = fact_within parts.variables f there in
+      let stays = settled-stays parts (written state by.operator.effects) f.var (omega (arith, long, within, state_of.long)) plain_var in
       let before : holds (written state by.operator.effects) f ≡ true = ap (λ v. nat_eq v f.val) (sym stays) ∙ (ap (λ (s : List ℕ). holds s f) (sym by.is) ∙ h) in
       elim (written_source state by.operator.effects f before) [
         | inl held ↦ all.each f there held
@@ -371,8 +341,8 @@ module _ (parts : Parts) (from : List ℕ) (without : List Fact) (formed : IsWel
       ]
 
   -- A step leads from a state whose facts are reached to another, if none that is left out holds in it.
-  pub step_reached : (state : List ℕ) (op : ℕ) (next : List ℕ) → AllReached parts from without state → step parts state op ≡ Some next → none_hold without next ≡ true → AllReached parts from without next
-  step_reached state op next all taken none =
+  pub step_reached : (state : List ℕ) (op : ℕ) (next : List ℕ) → IsState parts.variables state → AllReached parts from without state → step parts state op ≡ Some next → none_hold without next ≡ true → AllReached parts from without next
+  step_reached state op next state_of all taken none =
       let by = step-by parts state op next taken in
       let before : List ℕ = written state by.operator.effects in
       let same : next ≡ settled parts before = by.is in
@@ -387,7 +357,9 @@ module _ (parts : Parts) (from : List ℕ) (without : List Fact) (formed : IsWel
       by_kind f there h true derived = outside f derived
       by_kind f there h false derived =
           let by = step-by parts state op next taken in
-          let stays = settled_stays parts (written state by.operator.effects) f.var derived in
+          let long : length (written state by.operator.effects) ≡ length state = length-written state by.operator.effects in
+          let within = fact_within parts.variables f there in
+          let stays = settled-stays parts (written state by.operator.effects) f.var (omega (arith, long, within, state_of.long)) derived in
           absent next none f (ap (λ (s : List ℕ). holds s f) by.is ∙ (ap (λ v. nat_eq v f.val) stays ∙ h))
 
   -- and so are the facts of the state itself
@@ -416,17 +388,17 @@ module _ (parts : Parts) (from : List ℕ) (without : List Fact) (formed : IsWel
         ] e
       ] run
 
-  states_reached : (ops : List ℕ) (state : List ℕ) (states : List (List ℕ)) → AllReached parts from without state → states_of parts state ops ≡ Some states → list_all (none_hold without) states ≡ true →
+  states_reached : (ops : List ℕ) (state : List ℕ) (states : List (List ℕ)) → IsState parts.variables state → AllReached parts from without state → states_of parts state ops ≡ Some states → list_all (none_hold without) states ≡ true →
       (place : ℕ) (other : List ℕ) → slice_get states place ≡ Some other → AllReached parts from without other
-  states_reached [] state states all run none place other at = alone place (ap (λ (ss : List (List ℕ)). slice_get ss place) (same_Some _ _ run) ∙ at)
+  states_reached [] state states state_of all run none place other at = alone place (ap (λ (ss : List (List ℕ)). slice_get ss place) (same_Some _ _ run) ∙ at)
     where
       alone : (place : ℕ) → slice_get (state ∷ []) place ≡ Some other → AllReached parts from without other
       alone zero at = subst (AllReached parts from without) (same_Some state other at) all
       alone (suc place) at = absurd (none-some other at)
-  states_reached (op ∷ ops) state states all run none place other at =
+  states_reached (op ∷ ops) state states state_of all run none place other at =
       by_step (step parts state op) refl run
-      (λ next taken more rest tests. states_reached ops next more
-      (step_reached state op next all taken (first_of (none_hold without) next ops more rest tests)) rest tests)
+      (λ next taken more rest tests. states_reached ops next more (step-state parts state op next formed state_of taken)
+      (step_reached state op next state_of all taken (first_of (none_hold without) next ops more rest tests)) rest tests)
     where
       by_rest : (next : List ℕ) → step parts state op ≡ Some next → (o : Option (List (List ℕ))) → states_of parts next ops ≡ o → option_map (λ more. state ∷ more) o ≡ Some states →
           ((next : List ℕ) → step parts state op ≡ Some next → (more : List (List ℕ)) → states_of parts next ops ≡ Some more → list_all (none_hold without) more ≡ true → (place : ℕ) (other : List ℕ) → slice_get more place ≡ Some other → AllReached parts from without other) →
@@ -448,23 +420,23 @@ module _ (parts : Parts) (from : List ℕ) (without : List Fact) (formed : IsWel
       by_step (Some next) taken e later = by_rest next taken (states_of parts next ops) refl e later
 
   -- where operators lead, if what is left out never holds
-  end_reached : (ops : List ℕ) (state last : List ℕ) → ((other : List ℕ) → none_hold without other ≡ true) → AllReached parts from without state → end_of parts state ops ≡ Some last → AllReached parts from without last
-  end_reached [] state last never all run = subst (AllReached parts from without) (same_Some state last run) all
-  end_reached (op ∷ ops) state last never all run =
+  end_reached : (ops : List ℕ) (state last : List ℕ) → ((other : List ℕ) → none_hold without other ≡ true) → IsState parts.variables state → AllReached parts from without state → end_of parts state ops ≡ Some last → AllReached parts from without last
+  end_reached [] state last never state_of all run = subst (AllReached parts from without) (same_Some state last run) all
+  end_reached (op ∷ ops) state last never state_of all run =
       elim (step parts state op) as (λ o. step parts state op ≡ o → option_and_then (λ next. end_of parts next ops) o ≡ Some last → AllReached parts from without last) [
         | None ↦ λ taken e. absurd (none-some last e)
-        | Some next ↦ λ taken e. end_reached ops next last never (step_reached state op next all taken (never next)) e
+        | Some next ↦ λ taken e. end_reached ops next last never (step-state parts state op next formed state_of taken) (step_reached state op next state_of all taken (never next)) e
       ] refl run
 
   -- In a run from the state, if none of the facts that are left out holds in any of its states, all facts of its states are reached without them.
   pub run_reached : (ops : List ℕ) (states : List (List ℕ)) → states_of parts from ops ≡ Some states → list_all (none_hold without) states ≡ true →
       (place : ℕ) (state : List ℕ) → slice_get states place ≡ Some state → AllReached parts from without state
-  run_reached ops states run none = states_reached ops from states (start_reached (first_of (none_hold without) from ops states run none)) run none
+  run_reached ops states run none = states_reached ops from states of (start_reached (first_of (none_hold without) from ops states run none)) run none
 
 -- No operators lead from a dead state to a goal.
 pub no_operators_reach_the_goal : (parts : Parts) (state ops last : List ℕ) → IsWellFormed parts → IsState parts.variables state → IsDead parts state → end_of parts state ops ≡ Some last → is_goal parts last ≡ false
 no_operators_reach_the_goal parts state ops last formed of dead run = false_from_ne_true _ (λ goal.
-    let all = end_reached parts state [] formed of refl ops state last (λ other. refl) (start_reached parts state [] formed of refl refl) run in
+    let all = end_reached parts state [] formed of refl ops state last (λ other. refl) of (start_reached parts state [] formed of refl refl) run in
     let there = list_all_get (is_fact parts.variables) parts.goal dead.place dead.goal (goal-facts parts formed) dead.at in
     let r = all.each dead.goal there (list_all_get (holds last) parts.goal dead.place dead.goal goal dead.at) in
     both_ways _ (dead.unreached r.round) r.reached)
