@@ -9,11 +9,13 @@ use Rattle.sas_task.specs.declared.contents.CostKind.{CostKind}
 use Rattle.sas_task.specs.declared.contents.Parts.{Parts}
 use Rattle.relaxed_task.specs.declared.relaxation.Lists.{Lists}
 use Rattle.relaxed_task.specs.declared.unary.Unary.{Unary}
-use Rattle.relaxed_task.specs.Numbers.{numbers_by, facts_of}
+use Rattle.relaxed_task.specs.Numbers.{numbers_by}
+use Rattle.relaxed_task.specs.Facts.{facts_of}
 use Rattle.relaxed_task.specs.NumberLaws.{numbers_by-is, state_below}
-use Rattle.relaxed_task.specs.NumberRounds.{is_among, start_facts}
+use Rattle.relaxed_task.specs.Numbers.{is_among}
+use Rattle.h_add.specs.ByNumber.{start_facts}
 use Rattle.relaxed_task.specs.Relaxations.{IsRelaxed}
-use Rattle.relaxed_task.specs.Unaries.{is_below}
+use Rattle.relaxed_task.specs.Numbers.{is_below}
 use Rattle.lama_num.specs.Lists.{both}
 use Rattle.h_add.specs.Tables.{AreFree}
 use Rattle.h_ff.specs.Best.{is_given}

@@ -9,7 +9,7 @@ use Rattle.sas_task.specs.declared.contents.Operator.{Operator}
 use Rattle.sas_task.specs.declared.contents.Parts.{Parts}
 use Rattle.axiom_eval.specs.Within.{is_within}
 use Rattle.state_step.specs.Steps.{is_applicable}
-use Rattle.relaxed_task.specs.Within.{fitting}
+use Rattle.sas_task.specs.Within.{all_facts_within}
 use Rattle.relaxed_task.specs.declared.unary.Unary.{Unary}
 use Rattle.h_ff.specs.Orders.{chosen, ops_of}
 use Rattle.h_ff.proofs.Grows.{chosen_grows}
