@@ -119,9 +119,9 @@ grows unaries start costs given order i u at lt ready is =
         ∙ (ap (λ (b : Bool). is_among (start ++ given_by (chosen unaries order)) fact || b) (sym other.1) ∙ sym (split fact))))
 
 -- where nothing is ready, every fact that costs something finite is given
-pub all_given : (unaries : List Unary) (start : List ℕ) (costs : ℕ → Estimate) (given : List Bool) (order : List ℕ) → AreLeast over_numbers unaries start costs → IsOrder unaries start costs given order →
+pub all_given : (unaries : List Unary) (start : List ℕ) (costs : ℕ → Estimate) (given : List Bool) (order : List ℕ) → AreLeast over_numbers unaries start [] costs → IsOrder unaries start costs given order →
     ((i : ℕ) (u : Unary) → slice_get unaries i ≡ Some u → is_ready given costs u ≡ false) → (fact : ℕ) → is_finite (costs fact) ≡ true → is_given given fact ≡ true
-all_given unaries start costs given order least is none = finite_had over_numbers unaries start costs (is_given given) least (record {
+all_given unaries start costs given order least is none = finite_had over_numbers unaries start [] costs (is_given given) least (record {
   start_has = λ fact first. is.given_is fact ∙ (list_any-append (nat_eq fact) start (given_by (chosen unaries order)) ∙ left (is_among start fact) (is_among (given_by (chosen unaries order)) fact) (both (is_among start fact) true first).0);
   more = λ i u at conds finite pays. by_test u (is_given given u.gives) refl (none i u at) conds finite pays;
 })
@@ -137,11 +137,11 @@ all_given unaries start costs given order least is none = finite_had over_number
         cc
 
 -- and then what is needed of the order is a relaxed plan
-pub plan_of_order : (unaries : List Unary) (start : List ℕ) (costs : ℕ → Estimate) (given : List Bool) (order goals : List ℕ) → AreLeast over_numbers unaries start costs → IsOrder unaries start costs given order →
+pub plan_of_order : (unaries : List Unary) (start : List ℕ) (costs : ℕ → Estimate) (given : List Bool) (order goals : List ℕ) → AreLeast over_numbers unaries start [] costs → IsOrder unaries start costs given order →
     ((i : ℕ) (u : Unary) → slice_get unaries i ≡ Some u → is_ready given costs u ≡ false) → list_all (λ fact. is_finite (costs fact)) goals ≡ true →
     IsSupported over_numbers unaries start costs goals (kept over_numbers goals (chosen unaries order))
 plan_of_order unaries start costs given order goals least is none finite =
-    kept_is_supported over_numbers unaries start costs goals (chosen unaries order) is.best is.in_order (all_goals goals finite)
+    kept_is_supported over_numbers goals unaries start costs (chosen unaries order) is.best is.in_order (all_goals goals finite)
   where
     all_goals : (goals : List ℕ) → list_all (λ fact. is_finite (costs fact)) goals ≡ true → list_all (is_among (start ++ given_by (chosen unaries order))) goals ≡ true
     all_goals [] finite = refl
