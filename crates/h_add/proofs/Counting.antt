@@ -7,8 +7,8 @@ use Rattle.lama_num.specs.declared.estimates.Estimate.{Estimate}
 use Rattle.h_add.specs.Values.{estimate_of, value_at}
 use Rattle.relaxed_task.specs.declared.unary.Unary.{Unary}
 use Rattle.relaxed_task.specs.Estimates.{is_finite, IsAtMost}
-use Rattle.relaxed_task.specs.NumberRounds.{is_among}
-use Rattle.relaxed_task.specs.NumberSums.{price}
+use Rattle.relaxed_task.specs.Numbers.{is_among}
+use Rattle.h_add.specs.ByNumber.{price}
 use Rattle.h_add.specs.Queues.{is_waiting, IsWithout, one_if}
 use Rattle.h_add.specs.UnderWay.{is_done, IsUnderWay}
 use Rattle.h_add.specs.Rows.{row_at}

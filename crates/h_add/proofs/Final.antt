@@ -13,9 +13,10 @@ use Rattle.sas_task.specs.States.{IsState}
 use Rattle.sas_task.specs.WellFormed.{is_fact}
 use Rattle.relaxed_task.specs.declared.relaxation.Lists.{Lists}
 use Rattle.relaxed_task.specs.declared.unary.Unary.{Unary}
-use Rattle.relaxed_task.specs.NumberLaws.{numbers_by-is, state_below, number_by-is, number_below}
+use Rattle.relaxed_task.specs.NumberLaws.{start_numbers, numbers_by-is, state_below, number_by-is, number_below}
 use Rattle.relaxed_task.specs.Numbers.{numbers_by, number_of, numbers_of, number_by}
-use Rattle.relaxed_task.specs.NumberRounds.{is_among, start_facts}
+use Rattle.relaxed_task.specs.Numbers.{is_among}
+use Rattle.h_add.specs.ByNumber.{start_facts}
 use Rattle.relaxed_task.specs.Relaxations.{IsRelaxed}
 use Rattle.h_add.specs.Counts.{unseen, IsCounted, IsSeen}
 use Rattle.h_add.specs.Marks.{AreMarked}
@@ -31,7 +32,7 @@ pub state_numbers_below : (parts : Parts) (kind : CostKind) (relaxed : Lists) (s
 state_numbers_below parts kind relaxed state is of = rw (numbers_by-is parts.variables relaxed.offsets state is.offsets of, is.facts) (state_below parts.variables state of)
 
 pub start_is : (parts : Parts) (kind : CostKind) (relaxed : Lists) (state : List ℕ) → IsRelaxed parts kind relaxed → IsState parts.variables state → numbers_by relaxed.offsets state ++ relaxed.defaults ≡ start_facts parts state
-start_is parts kind relaxed state is of = rw (numbers_by-is parts.variables relaxed.offsets state is.offsets of, is.defaults) refl
+start_is parts kind relaxed state is of = start_numbers parts kind relaxed state is of
 
 -- at the start nothing was looked at
 all_unseen : (flags : List Bool) (conds : List ℕ) → ((fact : ℕ) → is_out flags fact ≡ false) → unseen (is_out flags) conds ≡ length conds

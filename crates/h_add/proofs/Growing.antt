@@ -8,8 +8,8 @@ use Rattle.std.proofs.lemmas.Option.{slice_get_within, slice_get-get_or}
 use Rattle.lama_num.specs.Lists.{both, list_all_get}
 use Rattle.lama_num.specs.declared.memory.NoMemory.{NoMemory}
 use Rattle.relaxed_task.specs.declared.unary.Unary.{Unary}
-use Rattle.relaxed_task.specs.NumberRounds.{is_among}
-use Rattle.relaxed_task.specs.Unaries.{is_below, is_unary_below}
+use Rattle.relaxed_task.specs.Numbers.{is_among}
+use Rattle.relaxed_task.specs.Numbers.{is_below, is_unary_below}
 use Rattle.h_add.specs.Counts.{occurrences}
 use Rattle.h_add.specs.Occurrences.{occurrences_last}
 use Rattle.h_add.specs.Queues.{one_if}

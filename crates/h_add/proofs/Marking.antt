@@ -6,9 +6,10 @@ use Rattle.std.proofs.lemmas.List.Folds.{list_any-append}
 use Rattle.lama_num.specs.declared.estimates.Estimate.TheVariants.{Finite, Infinite}
 use Rattle.relaxed_task.specs.declared.unary.Unary.{Unary}
 use Rattle.relaxed_task.specs.Estimates.{is_finite, IsAtMost}
-use Rattle.relaxed_task.specs.NumberRounds.{is_among, is_in_round}
-use Rattle.relaxed_task.specs.NumberSums.{add_round}
-use Rattle.relaxed_task.specs.AddLaws.{at_most_self, at_most_infinite}
+use Rattle.relaxed_task.specs.Numbers.{is_among}
+use Rattle.h_add.specs.ByNumber.{is_started}
+use Rattle.h_add.specs.ByNumber.{add_round}
+use Rattle.relaxed_task.specs.EstimateLaws.{at_most_self, at_most_infinite}
 use Rattle.h_add.specs.Values.{estimate_of, value_at}
 use Rattle.h_add.specs.Queues.{is_waiting}
 use Rattle.h_add.specs.UnderWay.{is_done, is_out, IsOut, IsUnderWay}
@@ -128,5 +129,5 @@ marked_way unaries start without costs free waiting out are_free outs m = record
     by_others fact (inr h) =
         let stays : is_among without fact ≡ false = sym (outs fact) ∙ h.1 in
         let zero_now = m.first fact h.0 h.1 in
-        let here : is_in_round unaries start without 0 fact ≡ true = rw (h.0, stays) refl in
+        let here : is_started start without fact ≡ true = rw (h.0, stays) refl in
         rw (zero_now, here) (at_most_self (Finite 0))

@@ -3,7 +3,7 @@ use Rattle.std.proofs.Common.{◌≡◌, ap, ℕ, zero, suc, ◌+◌, ◌<◌, �
 use Rattle.std.proofs.lemmas.Bool.Decides.{nat_tests}
 use Rattle.lama_num.specs.declared.estimates.Estimate.TheVariants.{Finite, Infinite}
 use Rattle.relaxed_task.specs.Estimates.{IsAtMost}
-use Rattle.relaxed_task.specs.AddLaws.{at_most_infinite}
+use Rattle.relaxed_task.specs.EstimateLaws.{at_most_infinite}
 use Rattle.h_add.specs.Values.{estimate_of}
 use Rattle.h_add.specs.Queues.{is_waiting, IsWithout, IsPopped, one_if, flags_set}
 use Rattle.h_add.specs.UnderWay.{sum_of, left_to_do}

@@ -1,4 +1,5 @@
 -- One offer, one fact looked at, and the end.
+use Rattle.relaxed_task.specs.Numbers.{over_numbers}
 use Rattle.std.proofs.Common.{◌≡◌, ◌≢◌, ◌∙◌, sym, ap, subst, refl, ℕ, ◌+◌, ◌<◌, ◌≤◌, ◌⊎◌, inl, inr, List, [], ◌∷◌, length, get_or, drop, Bool, true, false, nat_eq, not, ◌&&◌, ◌||◌, arith, Some, nat_lt, slice_get, slice_set, get_or-set_other, get_or-set_same}
 use Rattle.std.specs.List.{list_all}
 use Rattle.std.proofs.lemmas.Bool.Decides.{nat_tests}
@@ -8,10 +9,12 @@ use Rattle.lama_num.specs.declared.estimates.Estimate.TheVariants.{Finite, Infin
 use Rattle.relaxed_task.specs.declared.unary.Unary.{Unary}
 use Rattle.relaxed_task.specs.Estimates.{is_finite, IsAtMost, IsLeast}
 use Rattle.lama_num.specs.Estimates.{estimate_sum}
-use Rattle.relaxed_task.specs.NumberRounds.{is_among}
-use Rattle.relaxed_task.specs.NumberSums.{total, price, add_round}
-use Rattle.relaxed_task.specs.AddLaws.{at_most_self, at_most_trans, at_most_infinite, infinite_where_not, finite_price}
-use Rattle.relaxed_task.specs.AnyOrder.{price_attained, any_order}
+use Rattle.relaxed_task.specs.Numbers.{is_among}
+use Rattle.relaxed_task.specs.Relaxing.{sum_of as total}
+use Rattle.h_add.specs.ByNumber.{price, add_round}
+use Rattle.relaxed_task.specs.EstimateLaws.{at_most_self, at_most_trans, at_most_infinite, infinite_where_not}
+use Rattle.relaxed_task.specs.CostLaws.{price_finite}
+use Rattle.relaxed_task.specs.CostLaws.{price_attained, any_order}
 use Rattle.h_add.specs.Values.{estimate_of, value_at}
 use Rattle.h_add.specs.Queues.{is_waiting, IsWithout}
 use Rattle.h_add.specs.UnderWay.{is_done, Owes, IsUnderWay, is_out, IsOut}
@@ -108,7 +111,7 @@ lowered unaries start without v w p q i u owed at stays l is = record {
   where
     by_place : (fact : ℕ) → ((fact ≡ u.gives) × (nat_eq fact u.gives ≡ true)) ⊎ ((fact ≢ u.gives) × (nat_eq fact u.gives ≡ false)) → (n : ℕ) × IsAtMost (add_round unaries start without n fact) (w fact)
     by_place fact (inl here) =
-        let a = price_attained unaries start without v i u at stays is.attained in
+        let a = price_attained over_numbers unaries start without v i u at stays is.attained in
         let there : IsAtMost (add_round unaries start without a.0 u.gives) (w u.gives) = rw l.at a.1 in
         (a.0, subst (λ (k : ℕ). IsAtMost (add_round unaries start without a.0 k) (w k)) (sym here.0) there)
     by_place fact (inr other) =
@@ -155,7 +158,7 @@ all_done v p (c ∷ conds) none finite =
 
 pub at_last : (unaries : List Unary) (start without : List ℕ) (v : ℕ → Estimate) (p : ℕ → Bool) → ((fact : ℕ) → p fact ≡ false) → IsUnderWay unaries start without v p [] →
     (fact : ℕ) → IsLeast (λ n. add_round unaries start without n fact) (v fact)
-at_last unaries start without v p none is = any_order unaries start without v is.first (λ i u at stays. by_test i u at stays (list_all (λ fact. is_finite (v fact)) u.conds) refl) is.attained
+at_last unaries start without v p none is = any_order over_numbers unaries start without v is.first (λ i u at stays. by_test i u at stays (list_all (λ fact. is_finite (v fact)) u.conds) refl) is.attained
   where
     by_case : (i : ℕ) (u : Unary) → IsAtMost (v u.gives) (price v u) ⊎ (is_among [] i ≡ true) → IsAtMost (v u.gives) (price v u)
     by_case i u (inl le) = le
@@ -164,7 +167,7 @@ at_last unaries start without v p none is = any_order unaries start without v is
     by_test : (i : ℕ) (u : Unary) → slice_get unaries i ≡ Some u → is_among without u.gives ≡ false → (b : Bool) → list_all (λ fact. is_finite (v fact)) u.conds ≡ b → IsAtMost (v u.gives) (price v u)
     by_test i u at stays true finite = by_case i u (is.owes i u at stays (all_done v p u.conds none finite))
     by_test i u at stays false finite =
-        let e : price v u ≡ Infinite = infinite_where_not (price v u) (finite_price v u ∙ finite) in
+        let e : price v u ≡ Infinite = infinite_where_not (price v u) (price_finite over_numbers v u ∙ finite) in
         rw e (at_most_infinite (v u.gives))
 
 -- an offer that lowers a cost, and one that doesn't

@@ -6,8 +6,10 @@ use Rattle.lama_num.specs.declared.estimates.Estimate.{Estimate}
 use Rattle.lama_num.specs.declared.estimates.Estimate.TheVariants.{Finite, Infinite}
 use Rattle.lama_num.specs.Estimates.{estimate_sum}
 use Rattle.relaxed_task.specs.declared.unary.Unary.{Unary}
-use Rattle.relaxed_task.specs.AddLaws.{zero_plus, plus_zero, total_capped, plus_assoc}
-use Rattle.relaxed_task.specs.NumberSums.{total, price}
+use Rattle.relaxed_task.specs.EstimateLaws.{zero_plus, plus_zero, plus_assoc}
+use Rattle.relaxed_task.specs.CostLaws.{sum_capped as total_capped}
+use Rattle.relaxed_task.specs.Relaxing.{sum_of as total}
+use Rattle.h_add.specs.ByNumber.{price}
 use Rattle.h_add.specs.Values.{estimate_of, value_at}
 use Rattle.relaxed_task.specs.Elements.{drop_within}
 

@@ -10,15 +10,17 @@ use Rattle.sas_task.specs.WellFormed.{IsWellFormed, is_fact}
 use Rattle.sas_task.specs.declared.contents.CostKind.{CostKind}
 use Rattle.sas_task.specs.declared.contents.Fact.{Fact}
 use Rattle.sas_task.specs.declared.contents.Parts.{Parts}
-use Rattle.relaxed_task.specs.CostLaws.{cost_of_fact}
-use Rattle.relaxed_task.specs.DeadLaws.{any_of_facts, dead_where_infinite, infinite_where_dead}
+use Rattle.relaxed_task.specs.NumberLaws.{cost_of_fact}
+use Rattle.relaxed_task.specs.NumberLaws.{any_of_facts}
+use Rattle.relaxed_task.specs.ReachLaws.{dead_exactly}
 use Rattle.relaxed_task.specs.declared.relaxation.Lists.{Lists}
 use Rattle.relaxed_task.specs.declared.unary.Unary.{Unary}
 use Rattle.relaxed_task.specs.Estimates.{is_finite}
 use Rattle.relaxed_task.specs.Numbers.{number_of, numbers_of}
 use Rattle.relaxed_task.specs.Reached.{IsDead}
 use Rattle.relaxed_task.specs.Relaxations.{IsRelaxed}
-use Rattle.relaxed_task.specs.NumberSums.{costs_by, total}
+use Rattle.relaxed_task.specs.Numbers.{costs_by}
+use Rattle.relaxed_task.specs.Relaxing.{sum_of as total}
 use Rattle.h_add.specs.Values.{value_at, IsEvaluated, IsEvaluatedByNumber}
 
 -- what is evaluated by number is evaluated
@@ -33,10 +35,13 @@ evaluated_facts parts kind state without costs formed of all each = record {
 pub infinite_if_dead : (parts : Parts) (kind : CostKind) (relaxed : Lists) (state costs : List ℕ) → IsRelaxed parts kind relaxed → IsEvaluated parts kind state [] costs →
     (list_any (λ fact. not (is_finite (value_at costs fact))) relaxed.goals ≡ true) ↔ IsDead parts state
 infinite_if_dead parts kind relaxed state costs is evaluated = (
-  λ some. dead_where_infinite parts kind state (costs_by parts.variables (value_at costs)) is.well_formed evaluated.of_task evaluated.each (sym goals ∙ some),
-  λ dead. goals ∙ infinite_where_dead parts kind state (costs_by parts.variables (value_at costs)) is.well_formed evaluated.of_task evaluated.each dead,
+  λ some. exactly.0 (sym goals ∙ some),
+  λ dead. goals ∙ exactly.1 dead,
 )
   where
+    exactly : (list_any (λ fact. not (is_finite (costs_by parts.variables (value_at costs) fact))) parts.goal ≡ true) ↔ IsDead parts state
+    exactly = dead_exactly parts kind state (costs_by parts.variables (value_at costs)) is.well_formed evaluated.each
+
     goals : list_any (λ fact. not (is_finite (value_at costs fact))) relaxed.goals ≡ list_any (λ fact. not (is_finite (costs_by parts.variables (value_at costs) fact))) parts.goal
     goals =
         ap (list_any (λ fact. not (is_finite (value_at costs fact)))) is.goals

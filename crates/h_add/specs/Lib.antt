@@ -1,3 +1,4 @@
+pub mod ByNumber
 pub mod Costings
 pub mod Counts
 pub mod Laws

@@ -1,7 +1,7 @@
 -- The start of an evaluation.
 use Rattle.std.specs.Prelude.{◌≡◌, ℕ, List, Bool, true, false, ◌⊎◌}
 use Rattle.lama_num.specs.declared.estimates.Estimate.TheVariants.{Finite, Infinite}
-use Rattle.relaxed_task.specs.NumberRounds.{is_among}
+use Rattle.relaxed_task.specs.Numbers.{is_among}
 use Rattle.h_add.specs.Queues.{is_waiting}
 use Rattle.h_add.specs.Values.{value_at}
 use Rattle.h_add.specs.UnderWay.{is_done, is_out}

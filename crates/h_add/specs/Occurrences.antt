@@ -1,7 +1,7 @@
 -- Laws of how often a number stands in a list.
 use Rattle.std.specs.Prelude.{◌≡◌, ℕ, ◌+◌, ◌<◌, List, [], ◌∷◌, ◌++◌, Bool, true, false, ◌||◌, nat_eq}
 use Rattle.std.proofs.Common.{ap, arith, refl}
-use Rattle.relaxed_task.specs.NumberRounds.{is_among}
+use Rattle.relaxed_task.specs.Numbers.{is_among}
 use Rattle.h_add.specs.Counts.{occurrences}
 use Rattle.h_add.specs.Queues.{one_if}
 

@@ -2,8 +2,8 @@
 use Rattle.std.specs.Prelude.{◌≡◌, ℕ, List, [], length, map, Bool, true, nat_lt, IsTrue, slice_get, Some}
 use Rattle.std.specs.List.{list_all}
 use Rattle.relaxed_task.specs.declared.unary.Unary.{Unary}
-use Rattle.relaxed_task.specs.NumberRounds.{is_among}
-use Rattle.relaxed_task.specs.Unaries.{is_below}
+use Rattle.relaxed_task.specs.Numbers.{is_among}
+use Rattle.relaxed_task.specs.Numbers.{is_below}
 use Rattle.h_add.specs.declared.tables.Tables.{Tables}
 use Rattle.h_add.specs.Counts.{occurrences}
 use Rattle.h_add.specs.Rows.{row_at}

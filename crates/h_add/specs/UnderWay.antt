@@ -1,13 +1,15 @@
 -- Between the start and the last costs.
+use Rattle.relaxed_task.specs.Numbers.{over_numbers}
 use Rattle.std.specs.Prelude.{◌≡◌, ℕ, ◌+◌, ◌*◌, List, [], ◌∷◌, Bool, true, false, not, ◌&&◌, ◌⊎◌, slice_get, slice_index_or, Some}
 use Rattle.std.specs.List.{list_all}
 use Rattle.lama_num.specs.declared.estimates.Estimate.{Estimate}
 use Rattle.lama_num.specs.declared.estimates.Estimate.TheVariants.{Finite}
 use Rattle.relaxed_task.specs.declared.unary.Unary.{Unary}
 use Rattle.relaxed_task.specs.Estimates.{is_finite, IsAtMost}
-use Rattle.relaxed_task.specs.NumberRounds.{is_among, is_in_round}
-use Rattle.relaxed_task.specs.NumberSums.{price}
-use Rattle.relaxed_task.specs.AnyOrder.{IsAttained}
+use Rattle.relaxed_task.specs.Numbers.{is_among}
+use Rattle.h_add.specs.ByNumber.{is_started}
+use Rattle.h_add.specs.ByNumber.{price}
+use Rattle.relaxed_task.specs.CostLaws.{IsAttained}
 use Rattle.h_add.specs.Queues.{flags_set}
 
 -- a flag for each fact
@@ -30,8 +32,8 @@ Owes unaries without v waiting owed =
 
 -- the costs are those of some order so far
 pub record IsUnderWay (unaries : List Unary) (start without : List ℕ) (v : ℕ → Estimate) (waiting : ℕ → Bool) (owed : List ℕ) : Type 0 where
-  pub first : (fact : ℕ) → is_in_round unaries start without 0 fact ≡ true → v fact ≡ Finite 0
-  pub attained : IsAttained unaries start without v
+  pub first : (fact : ℕ) → is_started start without fact ≡ true → v fact ≡ Finite 0
+  pub attained : IsAttained over_numbers unaries start without v
   pub owes : Owes unaries without v waiting owed
 
 -- the sum of kept costs

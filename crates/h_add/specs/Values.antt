@@ -8,7 +8,8 @@ use Rattle.sas_task.specs.declared.contents.Fact.{Fact}
 use Rattle.sas_task.specs.declared.contents.Parts.{Parts}
 use Rattle.relaxed_task.specs.declared.relaxation.Lists.{Lists}
 use Rattle.relaxed_task.specs.AdditiveCosts.{AreAdditiveCosts}
-use Rattle.relaxed_task.specs.NumberSums.{costs_by, IsAdd}
+use Rattle.relaxed_task.specs.Numbers.{costs_by}
+use Rattle.h_add.specs.ByNumber.{IsAdd}
 
 -- a cost as it is kept: one above 1,000,000,000 is infinite
 abbrev pub estimate_of : ℕ → Estimate

@@ -8,7 +8,8 @@ ghost use Rattle.sas_task.specs.States.{IsState};
 ghost use Rattle.sas_task.specs.WellFormed.{is_fact};
 ghost use Rattle.sas_task.specs.declared.contents.Fact.{Fact as TheFact};
 ghost use Rattle.relaxed_task.specs.AdditiveCosts.{IsAdditiveCost, IsGoalValue};
-ghost use Rattle.relaxed_task.specs.Reached.{IsDead};
+ghost use Rattle.relaxed_task.specs.Estimates.{is_finite};
+ghost use Rattle.relaxed_task.specs.Reached.{IsDead, IsReached};
 ghost use Rattle.relaxed_task.specs.Relaxations.{IsRelaxed};
 ghost use Rattle.h_add.specs.Tables.{AreTablesOf, AreSound};
 ghost use Rattle.h_add.specs.Values.{value_at, IsEvaluated, IsEvaluatedByNumber};
@@ -118,9 +119,12 @@ impl Add {
 
     /// What a fact costs.
     pub fn value(&self, fact: Fact) -> Estimate
-        ensures { (parts : Parts) (kind : TheKind) (state : List ℕ) (without : List TheFact) → IsRelaxed parts kind self.now.relaxed →
+        ensures cost { (parts : Parts) (kind : TheKind) (state : List ℕ) (without : List TheFact) → IsRelaxed parts kind self.now.relaxed →
             IsEvaluated parts kind state without self.now.costs → IsTrue (is_fact parts.variables fact) →
             IsAdditiveCost parts kind state without fact result }
+        ensures finite { (parts : Parts) (kind : TheKind) (state : List ℕ) (without : List TheFact) → IsRelaxed parts kind self.now.relaxed →
+            IsEvaluated parts kind state without self.now.costs → IsTrue (is_fact parts.variables fact) →
+            (IsTrue (is_finite result) ↔ IsReached parts state without fact) }
     {
         let number = self.relaxed.number(fact.var as usize, fact.val);
         value_of(self.costs.as_slice(), number)

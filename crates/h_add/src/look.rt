@@ -1,7 +1,7 @@
 // Facts are looked at, once each where they come cheapest first, until none waits.
 ghost use Rattle.std.specs.Prelude.{◌≡◌, ℕ, List, length, false};
 ghost use Rattle.relaxed_task.specs.declared.unary.Unary.{Unary};
-ghost use Rattle.relaxed_task.specs.NumberSums.{add_round};
+ghost use Rattle.h_add.specs.ByNumber.{add_round};
 ghost use Rattle.relaxed_task.specs.Estimates.{IsLeast};
 ghost use Rattle.h_add.specs.Counts.{IsLooking};
 ghost use Rattle.h_add.specs.Queues.{is_waiting};

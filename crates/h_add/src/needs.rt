@@ -1,7 +1,7 @@
 // For each fact the unary operators that have it among their conditions.
 ghost use Rattle.std.specs.Prelude.{◌≡◌, ◌<◌, ◌^◌, ◌∷◌, ◌++◌, ℕ, List, length, IfOk, OnOk, IsTrue, true, slice_set, [], replicate};
 ghost use Rattle.std.specs.List.{list_all};
-ghost use Rattle.relaxed_task.specs.Unaries.{is_unary_below};
+ghost use Rattle.relaxed_task.specs.Numbers.{is_unary_below};
 ghost use Rattle.h_add.specs.Rows.{row_at};
 ghost use Rattle.h_add.specs.Tables.{IsNeeds, are_within, are_below};
 ghost use Rattle.h_add.specs.Listings.{Lists};

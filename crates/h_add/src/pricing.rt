@@ -2,7 +2,8 @@
 ghost use Rattle.std.specs.Prelude.{◌≡◌, ◌<◌, List, length, min, IsTrue, slice_get, Some};
 ghost use Rattle.lama_num.specs.Estimates.{estimate_sum};
 ghost use Rattle.relaxed_task.specs.declared.unary.Unary.{Unary};
-ghost use Rattle.relaxed_task.specs.NumberSums.{total as total_of, price as price_of};
+ghost use Rattle.relaxed_task.specs.Relaxing.{sum_of as total_of};
+ghost use Rattle.h_add.specs.ByNumber.{price as price_of};
 ghost use Rattle.h_add.specs.Values.{estimate_of, value_at};
 ghost use Rattle.h_add.specs.Tables.{AreTablesOf, AreSound, are_below};
 

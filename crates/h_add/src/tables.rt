@@ -1,7 +1,7 @@
 // The unary operators in flat tables.
 ghost use Rattle.std.specs.Prelude.{◌≡◌, ◌<◌, ◌^◌, length, map, IfOk, IsTrue, true};
 ghost use Rattle.std.specs.List.{list_all};
-ghost use Rattle.relaxed_task.specs.Unaries.{is_unary_below};
+ghost use Rattle.relaxed_task.specs.Numbers.{is_unary_below};
 ghost use Rattle.h_add.specs.Tables.{AreTablesOf, AreSound, AreFree, are_within};
 
 use crate::needs::needs_of;

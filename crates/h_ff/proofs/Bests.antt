@@ -4,7 +4,7 @@ use Rattle.std.proofs.lemmas.Bool.Decides.{nat_tests}
 use Rattle.std.proofs.lemmas.List.{get_or_default}
 use Rattle.lama_num.specs.declared.estimates.Estimate.TheVariants.{Finite, Infinite}
 use Rattle.relaxed_task.specs.declared.unary.Unary.{Unary}
-use Rattle.relaxed_task.specs.NumberSums.{price}
+use Rattle.h_add.specs.ByNumber.{price}
 use Rattle.h_add.specs.Values.{estimate_of, value_at}
 use Rattle.h_ff.specs.Best.{is_best, is_same}
 

@@ -1,4 +1,5 @@
 -- One more best supporter.
+use Rattle.relaxed_task.specs.Numbers.{over_numbers}
 use Rattle.std.proofs.Common.{◌≡◌, ◌≢◌, ◌∙◌, sym, ap, subst, refl, ℕ, zero, suc, ◌+◌, ◌<◌, ◌⊎◌, inl, inr, List, [], ◌∷◌, ◌++◌, length, Bool, true, false, nat_eq, nat_lt, not, ◌&&◌, ◌||◌, arith, Some, slice_get, slice_set, get_or-set_other, get_or-set_same}
 use Rattle.std.proofs.Math.Path.{fun_ext}
 use Rattle.std.specs.List.{list_all}
@@ -11,11 +12,13 @@ use Rattle.lama_num.specs.declared.estimates.Estimate.{Estimate}
 use Rattle.lama_num.specs.declared.estimates.Estimate.TheVariants.{Finite, Infinite}
 use Rattle.relaxed_task.specs.declared.unary.Unary.{Unary}
 use Rattle.relaxed_task.specs.Estimates.{is_finite}
-use Rattle.relaxed_task.specs.NumberRounds.{is_among}
-use Rattle.relaxed_task.specs.NumberSums.{price}
-use Rattle.relaxed_task.specs.NumberPlans.{IsInOrder, AreBest, IsBest, IsSupported}
-use Rattle.relaxed_task.specs.Supports.{AreLeast, finite_had}
-use Rattle.relaxed_task.specs.Kept.{kept, kept_is_supported}
+use Rattle.relaxed_task.specs.Numbers.{is_among}
+use Rattle.h_add.specs.ByNumber.{price}
+use Rattle.relaxed_task.specs.Relaxing.{IsInOrder, AreBest, IsBest, IsSupported}
+use Rattle.relaxed_task.specs.CostLaws.{AreLeast}
+use Rattle.relaxed_task.specs.PlanLaws.{finite_had}
+use Rattle.relaxed_task.specs.Relaxing.{kept}
+use Rattle.relaxed_task.specs.PlanLaws.{kept_is_supported}
 use Rattle.h_ff.specs.Best.{is_given, is_same, is_ready, clear_flags}
 use Rattle.h_ff.specs.Orders.{chosen, given_by, IsOrder, are_places}
 use Rattle.relaxed_task.specs.Elements.{denied, join, places}
@@ -47,7 +50,7 @@ turned x facts more = fun_ext (λ fact.
     turn false true c = refl
     turn false false c = refl
 
-order_grows : (facts : List ℕ) (list : List Unary) (u : Unary) → IsInOrder facts list → list_all (is_among (facts ++ given_by list)) u.conds ≡ true → is_among (facts ++ given_by list) u.gives ≡ false → IsInOrder facts (list ++ u ∷ [])
+order_grows : (facts : List ℕ) (list : List Unary) (u : Unary) → IsInOrder over_numbers facts list → list_all (is_among (facts ++ given_by list)) u.conds ≡ true → is_among (facts ++ given_by list) u.gives ≡ false → IsInOrder over_numbers facts (list ++ u ∷ [])
 order_grows facts [] u order conds new = (rw append-nil at conds, rw append-nil at new, tt)
 order_grows facts (x ∷ list) u order conds new = (
   order.0,
@@ -57,7 +60,7 @@ order_grows facts (x ∷ list) u order conds new = (
       (subst (λ (p : ℕ → Bool). p u.gives ≡ false) (turned x.gives facts (given_by list)) new),
 )
 
-best_grows : (unaries : List Unary) (costs : ℕ → Estimate) (list : List Unary) (u : Unary) → AreBest unaries costs list → IsBest unaries costs u → AreBest unaries costs (list ++ u ∷ [])
+best_grows : (unaries : List Unary) (costs : ℕ → Estimate) (list : List Unary) (u : Unary) → AreBest over_numbers unaries costs list → IsBest over_numbers unaries costs u → AreBest over_numbers unaries costs (list ++ u ∷ [])
 best_grows unaries costs [] u best is = (is, tt)
 best_grows unaries costs (x ∷ list) u best is = (best.0, best_grows unaries costs list u best.1 is)
 
@@ -116,9 +119,9 @@ grows unaries start costs given order i u at lt ready is =
         ∙ (ap (λ (b : Bool). is_among (start ++ given_by (chosen unaries order)) fact || b) (sym other.1) ∙ sym (split fact))))
 
 -- where nothing is ready, every fact that costs something finite is given
-pub all_given : (unaries : List Unary) (start : List ℕ) (costs : ℕ → Estimate) (given : List Bool) (order : List ℕ) → AreLeast unaries start costs → IsOrder unaries start costs given order →
+pub all_given : (unaries : List Unary) (start : List ℕ) (costs : ℕ → Estimate) (given : List Bool) (order : List ℕ) → AreLeast over_numbers unaries start [] costs → IsOrder unaries start costs given order →
     ((i : ℕ) (u : Unary) → slice_get unaries i ≡ Some u → is_ready given costs u ≡ false) → (fact : ℕ) → is_finite (costs fact) ≡ true → is_given given fact ≡ true
-all_given unaries start costs given order least is none = finite_had unaries start costs (is_given given) least (record {
+all_given unaries start costs given order least is none = finite_had over_numbers unaries start [] costs (is_given given) least (record {
   start_has = λ fact first. is.given_is fact ∙ (list_any-append (nat_eq fact) start (given_by (chosen unaries order)) ∙ left (is_among start fact) (is_among (given_by (chosen unaries order)) fact) (both (is_among start fact) true first).0);
   more = λ i u at conds finite pays. by_test u (is_given given u.gives) refl (none i u at) conds finite pays;
 })
@@ -134,11 +137,11 @@ all_given unaries start costs given order least is none = finite_had unaries sta
         cc
 
 -- and then what is needed of the order is a relaxed plan
-pub plan_of_order : (unaries : List Unary) (start : List ℕ) (costs : ℕ → Estimate) (given : List Bool) (order goals : List ℕ) → AreLeast unaries start costs → IsOrder unaries start costs given order →
+pub plan_of_order : (unaries : List Unary) (start : List ℕ) (costs : ℕ → Estimate) (given : List Bool) (order goals : List ℕ) → AreLeast over_numbers unaries start [] costs → IsOrder unaries start costs given order →
     ((i : ℕ) (u : Unary) → slice_get unaries i ≡ Some u → is_ready given costs u ≡ false) → list_all (λ fact. is_finite (costs fact)) goals ≡ true →
-    IsSupported unaries start costs goals (kept goals (chosen unaries order))
+    IsSupported over_numbers unaries start costs goals (kept over_numbers goals (chosen unaries order))
 plan_of_order unaries start costs given order goals least is none finite =
-    kept_is_supported unaries start costs goals (chosen unaries order) is.best is.in_order (all_goals goals finite)
+    kept_is_supported over_numbers goals unaries start costs (chosen unaries order) is.best is.in_order (all_goals goals finite)
   where
     all_goals : (goals : List ℕ) → list_all (λ fact. is_finite (costs fact)) goals ≡ true → list_all (is_among (start ++ given_by (chosen unaries order))) goals ≡ true
     all_goals [] finite = refl

@@ -5,7 +5,7 @@ use Rattle.std.proofs.lemmas.Bool.Decides.{nat_tests}
 use Rattle.std.proofs.lemmas.Option.{slice_get-get_or}
 use Rattle.std.proofs.lemmas.List.{get_or_default}
 use Rattle.relaxed_task.specs.declared.unary.Unary.{Unary}
-use Rattle.relaxed_task.specs.Unaries.{is_below, is_unary_below}
+use Rattle.relaxed_task.specs.Numbers.{is_below, is_unary_below}
 use Rattle.h_ff.specs.Orders.{are_places}
 use Rattle.lama_num.specs.Lists.{both, list_all_get}
 use Rattle.h_add.specs.Laws.{unary_at}

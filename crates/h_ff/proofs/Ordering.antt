@@ -9,11 +9,13 @@ use Rattle.sas_task.specs.declared.contents.CostKind.{CostKind}
 use Rattle.sas_task.specs.declared.contents.Parts.{Parts}
 use Rattle.relaxed_task.specs.declared.relaxation.Lists.{Lists}
 use Rattle.relaxed_task.specs.declared.unary.Unary.{Unary}
-use Rattle.relaxed_task.specs.Numbers.{numbers_by, facts_of}
-use Rattle.relaxed_task.specs.NumberLaws.{numbers_by-is, state_below}
-use Rattle.relaxed_task.specs.NumberRounds.{is_among, start_facts}
+use Rattle.relaxed_task.specs.Numbers.{numbers_by}
+use Rattle.relaxed_task.specs.Facts.{facts_of}
+use Rattle.relaxed_task.specs.NumberLaws.{start_numbers, numbers_by-is, state_below}
+use Rattle.relaxed_task.specs.Numbers.{is_among}
+use Rattle.h_add.specs.ByNumber.{start_facts}
 use Rattle.relaxed_task.specs.Relaxations.{IsRelaxed}
-use Rattle.relaxed_task.specs.Unaries.{is_below}
+use Rattle.relaxed_task.specs.Numbers.{is_below}
 use Rattle.lama_num.specs.Lists.{both}
 use Rattle.h_add.specs.Tables.{AreFree}
 use Rattle.h_ff.specs.Best.{is_given}
@@ -28,7 +30,7 @@ start_given parts kind lists state none first last is of clear one two fact =
     two fact ∙ (ap (λ (b : Bool). is_among lists.defaults fact || b) (one fact ∙ (ap (λ (b : Bool). is_among (numbers_by lists.offsets state) fact || b) (clear fact)))
     ∙ (turn (is_among lists.defaults fact) (is_among (numbers_by lists.offsets state) fact)
     ∙ (sym (list_any-append (nat_eq fact) (numbers_by lists.offsets state) lists.defaults)
-    ∙ (ap (λ (xs : List ℕ). is_among (xs ++ lists.defaults) fact) (numbers_by-is parts.variables lists.offsets state is.offsets of) ∙ ap (λ (xs : List ℕ). is_among (facts_of parts.variables state ++ xs) fact) is.defaults))))
+    ∙ ap (λ (xs : List ℕ). is_among xs fact) (start_numbers parts kind lists state is of))))
   where
     turn : (a b : Bool) → (a || (b || false)) ≡ (b || a)
     turn true true = refl

@@ -1,4 +1,5 @@
 -- What is needed of an order is a relaxed plan.
+use Rattle.relaxed_task.specs.Numbers.{over_numbers}
 use Rattle.std.proofs.Common.{◌≡◌, ◌∙◌, sym, ap, subst, refl, ℕ, ◌+◌, ◌≤◌, List, [], ◌∷◌, ◌++◌, length, length-append, Bool, true, false, nat_lt, ◌||◌, arith, map, reverse, if◌then◌else◌, Contains, Option, Some, None, slice_get, filter}
 use Rattle.sas_task.specs.declared.contents.CostKind.{CostKind}
 use Rattle.sas_task.specs.declared.contents.Parts.{Parts}
@@ -8,15 +9,17 @@ use Rattle.relaxed_task.specs.declared.relaxation.Lists.{Lists}
 use Rattle.relaxed_task.specs.declared.unary.Unary.{Unary}
 use Rattle.relaxed_task.specs.Estimates.{IsLeast}
 use Rattle.relaxed_task.specs.Numbers.{numbers_of}
-use Rattle.relaxed_task.specs.Unaries.{by_number, numbered_unaries}
-use Rattle.relaxed_task.specs.UnaryOperators.{UnaryOperator, distinct_facts}
-use Rattle.relaxed_task.specs.NumberRounds.{is_among, start_facts}
+use Rattle.relaxed_task.specs.Numbers.{by_number, numbered_unaries}
+use Rattle.relaxed_task.specs.Facts.{UnaryOperator, distinct_facts}
+use Rattle.relaxed_task.specs.Numbers.{is_among}
+use Rattle.h_add.specs.ByNumber.{start_facts}
 use Rattle.relaxed_task.specs.Reached.{IsDead}
 use Rattle.relaxed_task.specs.Relaxations.{IsRelaxed}
-use Rattle.relaxed_task.specs.Kept.{kept}
-use Rattle.relaxed_task.specs.NumberPlans.{IsSupported}
-use Rattle.relaxed_task.specs.NumberSums.{costs_by, add_round}
-use Rattle.relaxed_task.specs.PlanLaws.{supported_by_facts}
+use Rattle.relaxed_task.specs.Relaxing.{kept}
+use Rattle.relaxed_task.specs.Relaxing.{IsSupported}
+use Rattle.relaxed_task.specs.Numbers.{costs_by}
+use Rattle.h_add.specs.ByNumber.{add_round}
+use Rattle.relaxed_task.specs.NumberLaws.{supported_by_facts}
 use Rattle.state_step.specs.Steps.{is_applicable}
 use Rattle.h_add.specs.Laws.{finite_if_alive}
 use Rattle.h_add.specs.Values.{value_at, IsEvaluated, IsEvaluatedByNumber}
@@ -34,7 +37,7 @@ places_grow n (x ∷ order) i all lt =
     let parts = both (nat_lt x n) (are_places n order) all in
     rw parts.0 (places_grow n order i parts.1 lt)
 
--- those that are kept are among the places, and no more
+-- those that are kept over_numbers are among the places, and no more
 pub kept_within : (unaries : List Unary) (goals order : List ℕ) (n : ℕ) → are_places n order ≡ true → are_places n (kept_places unaries goals order) ≡ true
 kept_within unaries goals [] n all = refl
 kept_within unaries goals (i ∷ order) n all = by_test (is_needed unaries goals i order) (kept_within unaries goals order n parts.1)
@@ -56,16 +59,16 @@ kept_few unaries goals (i ∷ order) = let le = by_test (is_needed unaries goals
 
 -- their operators are those of the relaxed plan
 pub planned : (unaries : List Unary) (goals order places ops : List ℕ) → places ≡ kept_places unaries goals order → ((op : ℕ) → (Contains ops op → Contains (ops_of (chosen unaries places)) op) × (Contains (ops_of (chosen unaries places)) op → Contains ops op)) →
-    (op : ℕ) → (Contains ops op → Contains (ops_of (kept goals (chosen unaries order))) op) × (Contains (ops_of (kept goals (chosen unaries order))) op → Contains ops op)
+    (op : ℕ) → (Contains ops op → Contains (ops_of (kept over_numbers goals (chosen unaries order))) op) × (Contains (ops_of (kept over_numbers goals (chosen unaries order))) op → Contains ops op)
 planned unaries goals order places ops is same op =
-    let back : chosen unaries places ≡ reverse (kept goals (chosen unaries order)) = ap (chosen unaries) is ∙ places_of_plan unaries goals order in (
-      (λ h. ops_reversed (kept goals (chosen unaries order)) op (subst (λ (list : List Unary). Contains (ops_of list) op) back ((same op).0 h))),
-      (λ h. (same op).1 (subst (λ (list : List Unary). Contains (ops_of list) op) (sym back) (ops_forward (kept goals (chosen unaries order)) op h))),
+    let back : chosen unaries places ≡ reverse (kept over_numbers goals (chosen unaries order)) = ap (chosen unaries) is ∙ places_of_plan unaries goals order in (
+      (λ h. ops_reversed (kept over_numbers goals (chosen unaries order)) op (subst (λ (list : List Unary). Contains (ops_of list) op) back ((same op).0 h))),
+      (λ h. (same op).1 (subst (λ (list : List Unary). Contains (ops_of list) op) (sym back) (ops_forward (kept over_numbers goals (chosen unaries order)) op h))),
     )
 
-supported_as : (unaries other : List Unary) (goals more start : List ℕ) (costs : ℕ → Estimate) (list : List Unary) → unaries ≡ other → goals ≡ more → IsSupported unaries start costs goals list → IsSupported other start costs more list
+supported_as : (unaries other : List Unary) (goals more start : List ℕ) (costs : ℕ → Estimate) (list : List Unary) → unaries ≡ other → goals ≡ more → IsSupported over_numbers unaries start costs goals list → IsSupported over_numbers other start costs more list
 supported_as unaries other goals more start costs list a b is =
-    subst (λ (us : List Unary). IsSupported us start costs more list) a (subst (λ (gs : List ℕ). IsSupported unaries start costs gs list) b is)
+    subst (λ (us : List Unary). IsSupported over_numbers us start costs more list) a (subst (λ (gs : List ℕ). IsSupported over_numbers unaries start costs gs list) b is)
 
 same_ops : (variables : List Variable) (list : List UnaryOperator) → ops_of (map (by_number variables) list) ≡ operators_of list
 same_ops variables [] = refl
@@ -78,9 +81,9 @@ same_ops variables (u ∷ list) = by_op u.op refl (same_ops variables list)
 -- what FF answers where the state isn't dead
 pub has_plan : (parts : Parts) (kind : CostKind) (state costs : List ℕ) (lists : Lists) (given : List Bool) (order ops preferred : List ℕ) (value : ℕ) → IsRelaxed parts kind lists → IsEvaluated parts kind state [] costs → IsEvaluatedByNumber parts kind state [] costs → (IsDead parts state → ⊥) →
     IsOrder lists.unaries (start_facts parts state) (value_at costs) given order → ((i : ℕ) (u : Unary) → slice_get lists.unaries i ≡ Some u → is_ready given (value_at costs) u ≡ false) →
-    AreEachOnce (ops_of (kept lists.goals (chosen lists.unaries order))) ops → value ≡ cost_of parts kind ops → preferred ≡ filter (is_applicable parts state) ops → HasPlan parts kind state value ops preferred
+    AreEachOnce (ops_of (kept over_numbers lists.goals (chosen lists.unaries order))) ops → value ≡ cost_of parts kind ops → preferred ≡ filter (is_applicable parts state) ops → HasPlan parts kind state value ops preferred
 has_plan parts kind state costs lists given order ops preferred value is evaluated numbers alive ordered none operators cost applicable =
-    let list : List Unary = kept lists.goals (chosen lists.unaries order) in
+    let list : List Unary = kept over_numbers lists.goals (chosen lists.unaries order) in
     let finite = finite_if_alive parts kind lists state costs is evaluated alive in
     let least = subst (λ (unaries : List Unary). (fact : ℕ) → IsLeast (λ n. add_round unaries (start_facts parts state) [] n fact) (value_at costs fact)) (sym is.unaries) numbers in
     let by_numbers = plan_of_order lists.unaries (start_facts parts state) (value_at costs) given order lists.goals least ordered none finite in
@@ -104,5 +107,5 @@ marked_goals goals shown old new same clear marks fact =
     or_false true = refl
     or_false false = refl
 
-pub operators_as : (unaries shown : List Unary) (goals order ops : List ℕ) → shown ≡ unaries → AreEachOnce (ops_of (kept goals (chosen shown order))) ops → AreEachOnce (ops_of (kept goals (chosen unaries order))) ops
-operators_as unaries shown goals order ops same is = subst (λ (us : List Unary). AreEachOnce (ops_of (kept goals (chosen us order))) ops) same is
+pub operators_as : (unaries shown : List Unary) (goals order ops : List ℕ) → shown ≡ unaries → AreEachOnce (ops_of (kept over_numbers goals (chosen shown order))) ops → AreEachOnce (ops_of (kept over_numbers goals (chosen unaries order))) ops
+operators_as unaries shown goals order ops same is = subst (λ (us : List Unary). AreEachOnce (ops_of (kept over_numbers goals (chosen us order))) ops) same is

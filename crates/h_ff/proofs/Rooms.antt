@@ -5,7 +5,7 @@ use Rattle.std.proofs.lemmas.Bool.Decides.{nat_tests}
 use Rattle.std.proofs.lemmas.List.{length-set, length-replicate}
 use Rattle.std.proofs.lemmas.List.Folds.{list_all-append}
 use Rattle.relaxed_task.specs.Elements.{join}
-use Rattle.relaxed_task.specs.Unaries.{is_below}
+use Rattle.relaxed_task.specs.Numbers.{is_below}
 use Rattle.h_ff.specs.Best.{is_given, clear_flags}
 use Rattle.h_ff.specs.Passes.{HasRoom}
 use Rattle.h_ff.proofs.Grows.{clear_falls}

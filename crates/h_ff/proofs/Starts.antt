@@ -2,7 +2,7 @@
 use Rattle.std.proofs.Common.{◌≡◌, ◌≢◌, ◌∙◌, sym, ap, refl, ℕ, zero, suc, ◌+◌, ◌<◌, ◌≤◌, ◌⊎◌, inl, inr, List, [], ◌∷◌, ◌++◌, length, get_or, take, replicate, Bool, true, false, nat_eq, ◌||◌, arith, slice_set, get_or-set_other, get_or-set_same}
 use Rattle.std.proofs.lemmas.List.{take_more, take_all, get_or_default}
 use Rattle.std.proofs.lemmas.List.Folds.{list_any-append}
-use Rattle.relaxed_task.specs.NumberRounds.{is_among}
+use Rattle.relaxed_task.specs.Numbers.{is_among}
 use Rattle.h_ff.specs.Best.{is_given, clear_flags}
 use Rattle.h_ff.specs.Passes.{Passing, IsBegun}
 use Rattle.relaxed_task.specs.Elements.{places}

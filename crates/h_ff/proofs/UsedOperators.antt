@@ -9,7 +9,8 @@ use Rattle.sas_task.specs.declared.contents.Operator.{Operator}
 use Rattle.sas_task.specs.declared.contents.Parts.{Parts}
 use Rattle.axiom_eval.specs.Within.{is_within}
 use Rattle.state_step.specs.Steps.{is_applicable}
-use Rattle.relaxed_task.specs.Within.{fitting}
+use Rattle.sas_task.specs.Laws.{operator-at}
+use Rattle.sas_task.specs.Within.{all_facts_within}
 use Rattle.relaxed_task.specs.declared.unary.Unary.{Unary}
 use Rattle.h_ff.specs.Orders.{chosen, ops_of}
 use Rattle.h_ff.proofs.Grows.{chosen_grows}
@@ -49,7 +50,7 @@ ops_forward (u ∷ list) op h =
 
 -- the conditions of an operator are on variables of the state
 pub conditions_within : (parts : Parts) (state : List ℕ) (op : ℕ) (o : Operator) → IsWellFormed parts → length state ≡ length parts.variables → slice_get parts.operators op ≡ Some o → list_all (is_within (length state)) o.pre ≡ true
-conditions_within parts state op o formed long at = rw long ((fitting parts formed).operators op o at).0
+conditions_within parts state op o formed long at = rw long (all_facts_within parts.variables o.pre (operator-at parts op o formed at).pre)
 
 pub applicable_some : (parts : Parts) (state : List ℕ) (op : ℕ) (o : Operator) → slice_get parts.operators op ≡ Some o → is_applicable parts state op ≡ all_hold state o.pre
 applicable_some parts state op o at = rw at refl

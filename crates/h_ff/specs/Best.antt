@@ -5,7 +5,7 @@ use Rattle.lama_num.specs.declared.estimates.Estimate.{Estimate}
 use Rattle.lama_num.specs.declared.estimates.Estimate.TheVariants.{Finite, Infinite}
 use Rattle.relaxed_task.specs.declared.unary.Unary.{Unary}
 use Rattle.relaxed_task.specs.Estimates.{is_finite}
-use Rattle.relaxed_task.specs.NumberSums.{price}
+use Rattle.h_add.specs.ByNumber.{price}
 
 -- the same estimate
 abbrev pub is_same : Estimate → Estimate → Bool

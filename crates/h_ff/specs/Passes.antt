@@ -3,8 +3,8 @@ use Rattle.std.specs.Prelude.{◌≡◌, ℕ, ◌+◌, ◌≤◌, ◌<◌, List,
 use Rattle.std.specs.List.{list_all}
 use Rattle.lama_num.specs.declared.estimates.Estimate.{Estimate}
 use Rattle.relaxed_task.specs.declared.unary.Unary.{Unary}
-use Rattle.relaxed_task.specs.NumberRounds.{is_among}
-use Rattle.relaxed_task.specs.Unaries.{is_below}
+use Rattle.relaxed_task.specs.Numbers.{is_among}
+use Rattle.relaxed_task.specs.Numbers.{is_below}
 use Rattle.h_add.specs.Costings.{Counting}
 use Rattle.h_add.specs.Counts.{IsCounted}
 use Rattle.h_add.specs.UnderWay.{is_out}

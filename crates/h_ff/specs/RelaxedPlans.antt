@@ -10,7 +10,7 @@ use Rattle.sas_task.specs.Costs.{adjusted_cost}
 use Rattle.state_step.specs.Steps.{is_applicable}
 use Rattle.relaxed_task.specs.Plans.{IsRelaxedPlan}
 use Rattle.relaxed_task.specs.Reached.{IsDead}
-use Rattle.relaxed_task.specs.UnaryOperators.{UnaryOperator}
+use Rattle.relaxed_task.specs.Facts.{UnaryOperator}
 
 -- the operators of unary operators, one after the other; a rule has none
 abbrev pub operators_of : List UnaryOperator → List ℕ

@@ -1,8 +1,8 @@
 // Flags for facts, and lists with room.
 ghost use Rattle.std.specs.Prelude.{◌≡◌, ◌<◌, ◌≤◌, ◌∷◌, ◌++◌, ◌||◌, [], ℕ, length, true, false, IsTrue, IfOk, replicate, vec_len, vec_capacity};
 ghost use Rattle.std.specs.List.{list_all};
-ghost use Rattle.relaxed_task.specs.Unaries.{is_below};
-ghost use Rattle.relaxed_task.specs.NumberRounds.{is_among};
+ghost use Rattle.relaxed_task.specs.Numbers.{is_below};
+ghost use Rattle.relaxed_task.specs.Numbers.{is_among};
 ghost use Rattle.h_ff.specs.Best.{is_given, clear_flags};
 
 use std::alloc::{AllocError, Global};

@@ -1,8 +1,8 @@
 // Which best supporters of an order are needed.
 ghost use Rattle.std.specs.Prelude.{◌≡◌, ◌+◌, ◌<◌, ◌≤◌, [], ℕ, List, length, IsTrue, drop, vec_len, vec_capacity};
 ghost use Rattle.std.specs.List.{list_all};
-ghost use Rattle.relaxed_task.specs.NumberRounds.{is_among};
-ghost use Rattle.relaxed_task.specs.Unaries.{is_unary_below};
+ghost use Rattle.relaxed_task.specs.Numbers.{is_among};
+ghost use Rattle.relaxed_task.specs.Numbers.{is_unary_below};
 ghost use Rattle.h_ff.specs.Best.{is_given};
 ghost use Rattle.h_ff.specs.Orders.{AreMarked, kept_places, are_places};
 

@@ -1,6 +1,7 @@
 // A relaxed plan: the operators of what is needed of an order.
+ghost use Rattle.relaxed_task.specs.Numbers.{over_numbers};
 ghost use Rattle.std.specs.Prelude.{◌≡◌, ◌≤◌, [], length, true, filter, IfOk, vec_len, vec_capacity};
-ghost use Rattle.relaxed_task.specs.Kept.{kept};
+ghost use Rattle.relaxed_task.specs.Relaxing.{kept};
 ghost use Rattle.state_step.specs.Steps.{is_applicable};
 ghost use Rattle.h_ff.specs.Orders.{chosen, are_places, ops_of};
 ghost use Rattle.h_ff.specs.RelaxedPlans.{AreEachOnce};
@@ -49,7 +50,7 @@ fn operators_of(
     requires empty { operators.old.items ≡ [] }
     requires needed { length order.now ≤ vec_capacity needed.old }
     requires room { length order.now ≤ vec_capacity operators.old }
-    ensures operators { AreEachOnce (ops_of (kept relaxed.now.goals (chosen relaxed.now.unaries order.now))) operators.new.items }
+    ensures operators { AreEachOnce (ops_of (kept over_numbers relaxed.now.goals (chosen relaxed.now.unaries order.now))) operators.new.items }
     ensures few { vec_len operators.new ≤ length order.now }
     ensures marks { length marks.new ≡ length marks.old }
     ensures needed { vec_capacity needed.old ≤ vec_capacity needed.new }
@@ -112,7 +113,7 @@ impl RelaxedPlan {
         requires places { are_places (length relaxed.now.unaries) order.now ≡ true }
         requires few { length order.now ≤ self.old.facts }
         requires empty { self.old.operators ≡ [] }
-        ensures operators { AreEachOnce (ops_of (kept relaxed.now.goals (chosen relaxed.now.unaries order.now))) self.new.operators }
+        ensures operators { AreEachOnce (ops_of (kept over_numbers relaxed.now.goals (chosen relaxed.now.unaries order.now))) self.new.operators }
         ensures preferred { self.new.preferred ≡ self.old.preferred }
         ensures facts { self.new.facts ≡ self.old.facts }
     {

@@ -1,68 +1,58 @@
 // Unary operators that were worked by hand.
-use crate::calls::relaxed;
 use relaxed_task::{Relaxed, Unary};
 use sas_reader::read;
-use sas_task::{CostKind, Fact, Task};
-use std::alloc::Global;
+use sas_task::{CostKind, Fact};
+use std::alloc::{AllocError, Global};
 use std::process::Abort;
 use std::test::Fail;
 use test_tasks::{fact, free_moves, two_conditions};
 
-#[derive(Clone, Copy)]
-struct Row {
-    op: Option<u32>,
-    conds: &'static [u32],
-    gives: u32,
-    cost: u32,
+// In place of the operator of a rule.
+const RULE: u32 = 99;
+
+fn relaxed(alloc: Global, text: &str, kind: CostKind) -> Result<Relaxed, Fail> {
+    let task = read(alloc, text.as_bytes())?;
+    Ok(Relaxed::new(alloc, &task, kind)?)
 }
 
-fn is_row(unary: &Unary, row: &Row) -> bool {
-    unary.op == row.op
-        && unary.conds.as_slice() == row.conds
-        && unary.gives == row.gives
-        && unary.cost == row.cost
-}
-
-fn are_rows(unaries: &[Unary], rows: &[Row]) -> bool {
-    if unaries.len() != rows.len() {
-        return false;
+fn push_all(numbers: &mut Vec<u32>, more: &[u32]) -> Result<(), AllocError> {
+    for number in more {
+        numbers.push(*number)?;
     }
-    for i in 0..rows.len() {
-        if !is_row(&unaries[i], &rows[i]) {
-            return false;
-        }
-    }
-    true
+    Ok(())
 }
 
-fn of_operator(op: u32, conds: &'static [u32], gives: u32, cost: u32) -> Row {
-    Row {
-        op: Some(op),
-        conds,
-        gives,
-        cost,
-    }
+// The operator, what it gives, what it costs, and its conditions.
+fn push_unary(numbers: &mut Vec<u32>, unary: &Unary) -> Result<(), AllocError> {
+    numbers.push(unary.op.unwrap_or(RULE))?;
+    numbers.push(unary.gives)?;
+    numbers.push(unary.cost)?;
+    push_all(numbers, &unary.conds)
 }
 
-fn of_rule(conds: &'static [u32], gives: u32) -> Row {
-    Row {
-        op: None,
-        conds,
-        gives,
-        cost: 0,
+// All unary operators, one after the other.
+fn unaries(alloc: Global, relaxed: &Relaxed) -> Result<Vec<u32>, AllocError> {
+    let mut numbers = Vec::new(alloc);
+    for unary in relaxed.unary() {
+        push_unary(&mut numbers, unary)?;
     }
+    Ok(numbers)
 }
 
-fn expect(
-    rt: &impl Abort,
-    alloc: Global,
-    task: &Task,
-    kind: CostKind,
-    rows: &[Row],
-) -> Result<Relaxed, Fail> {
-    let relaxed = relaxed(alloc, task, kind)?;
-    assert!(rt; are_rows(relaxed.unary(), rows));
-    Ok(relaxed)
+fn moves(alloc: Global, kind: CostKind) -> Result<Vec<u32>, Fail> {
+    let relaxed = relaxed(alloc, free_moves(), kind)?;
+    Ok(unaries(alloc, &relaxed)?)
+}
+
+#[test]
+fn moves_that_cost_nothing(rt: HostRuntime) -> Result<(), Fail> {
+    let normal = moves(rt.alloc(), CostKind::Normal)?;
+    assert!(rt; normal.as_slice() == [0, 1, 0, 0, 1, 0, 0, 1, 2, 2, 3, 1].as_slice());
+    let one = moves(rt.alloc(), CostKind::One)?;
+    assert!(rt; one.as_slice() == [0, 1, 1, 0, 1, 0, 1, 1, 2, 2, 1, 1].as_slice());
+    let plus_one = moves(rt.alloc(), CostKind::PlusOne)?;
+    assert!(rt; plus_one.as_slice() == [0, 1, 1, 0, 1, 0, 1, 1, 2, 2, 4, 1].as_slice());
+    Ok(())
 }
 
 // The number of a fact that is there.
@@ -73,59 +63,22 @@ fn id(rt: &impl Abort, relaxed: &Relaxed, fact: Fact) -> u32 {
     relaxed.fact_id(fact)
 }
 
-fn expect_moves(
-    rt: &impl Abort,
-    alloc: Global,
-    kind: CostKind,
-    free: u32,
-    last: u32,
-) -> Result<(), Fail> {
-    let task = read(alloc, free_moves().as_bytes())?;
-    let rows = [
-        of_operator(0, &[0], 1, free),
-        of_operator(1, &[1], 0, free),
-        of_operator(2, &[1], 2, last),
-    ];
-    expect(rt, alloc, &task, kind, &rows)?;
-    Ok(())
-}
-
-#[test]
-fn moves_that_cost_nothing(rt: HostRuntime) -> Result<(), Fail> {
-    expect_moves(&rt, rt.alloc(), CostKind::Normal, 0, 3)?;
-    expect_moves(&rt, rt.alloc(), CostKind::One, 1, 1)?;
-    expect_moves(&rt, rt.alloc(), CostKind::PlusOne, 1, 4)?;
-    Ok(())
-}
-
-fn two_conditions_rows() -> [Row; 4] {
-    [
-        of_operator(0, &[0, 3], 4, 2),
-        of_operator(0, &[0], 1, 2),
-        of_rule(&[1], 6),
-        of_rule(&[6, 4], 8),
-    ]
-}
-
+// How many facts there are, where those of each variable begin, the defaults, and the goal facts.
 fn has_lists(relaxed: &Relaxed) -> bool {
     relaxed.facts() == 9
         && relaxed.offsets() == [0, 2, 5, 7].as_slice()
         && relaxed.defaults() == [5, 7].as_slice()
         && relaxed.goals() == [8, 1].as_slice()
+        && relaxed.number(3, 1) == 8
 }
 
 #[test]
 fn a_conditional_effect_and_two_layers(rt: HostRuntime) -> Result<(), Fail> {
-    let task = read(rt.alloc(), two_conditions().as_bytes())?;
-    let relaxed = expect(
-        &rt,
-        rt.alloc(),
-        &task,
-        CostKind::Normal,
-        &two_conditions_rows(),
-    )?;
+    let relaxed = relaxed(rt.alloc(), two_conditions(), CostKind::Normal)?;
+    let found = unaries(rt.alloc(), &relaxed)?;
+    let worked = [0, 4, 2, 0, 3, 0, 1, 2, 0, RULE, 6, 0, 1, RULE, 8, 0, 6, 4];
+    assert!(rt; found.as_slice() == worked.as_slice());
     assert!(rt; has_lists(&relaxed));
-    assert_eq!(rt; id(&rt, &relaxed, fact(1, 2)), 4);
-    assert_eq!(rt; id(&rt, &relaxed, fact(3, 1)), 8);
+    assert!(rt; id(&rt, &relaxed, fact(1, 2)) == 4);
     Ok(())
 }

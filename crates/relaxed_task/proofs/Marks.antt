@@ -6,9 +6,7 @@ use Rattle.std.proofs.lemmas.Bool.Decides.{nat_tests}
 use Rattle.std.proofs.lemmas.List.Elements.{filter-append}
 use Rattle.sas_task.specs.declared.contents.Fact.{Fact}
 use Rattle.relaxed_task.specs.Elements.{places}
-use Rattle.relaxed_task.specs.Numbers.{distinct, number_by}
-use Rattle.relaxed_task.specs.Unaries.{is_below}
-use Rattle.relaxed_task.specs.NumberRounds.{is_among}
+use Rattle.relaxed_task.specs.Numbers.{distinct, number_by, is_below, is_among}
 use Rattle.relaxed_task.specs.Making.{is_marked, AreMarked, with_one, with_all, all_numbers_by}
 
 -- a test of some element passes over one that fails it

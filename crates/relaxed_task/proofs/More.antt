@@ -12,7 +12,8 @@ use Rattle.sas_task.specs.declared.contents.Variable.{Variable}
 use Rattle.sas_task.specs.declared.contents.Operator.{Operator}
 use Rattle.sas_task.specs.declared.contents.Parts.{Parts}
 use Rattle.relaxed_task.specs.declared.unary.Unary.{Unary}
-use Rattle.relaxed_task.specs.Numbers.{number_by, fact_at}
+use Rattle.relaxed_task.specs.Facts.{fact_at}
+use Rattle.relaxed_task.specs.Numbers.{number_by}
 use Rattle.relaxed_task.specs.Making.{effect_by, operator_by, operators_by, defaults_by}
 
 places_more : {X : Type 0} (k i : ℕ) (xs : List X) (d : X) → i < length xs → enumerate_from k (take (i + 1) xs) ≡ enumerate_from k (take i xs) ++ (k + i, get_or xs i d) ∷ []

@@ -1,8 +1,10 @@
 -- What is made by where each variable's facts begin is what the task's facts by number are.
-use Rattle.std.specs.Prelude.{◌≡◌, ℕ, ◌+◌, ◌<◌, suc, List, [], ◌∷◌, ◌++◌, length, Bool, true, false, nat_lt, map, filter, slice_index, if◌then◌else◌}
+use Rattle.std.specs.Prelude.{◌≡◌, ℕ, ◌+◌, ◌<◌, List, [], ◌∷◌, ◌++◌, length, true, nat_lt, map, filter, slice_index}
 use Rattle.std.specs.List.{list_all, enumerate_from, flat_map}
 use Rattle.std.proofs.Common.{arith, refl, sym, ap, ◌∙◌}
 use Rattle.std.proofs.lemmas.List.{map-append}
+use Rattle.std.proofs.lemmas.Bool.{lt-ltb}
+use Rattle.std.proofs.lemmas.List.Folds.{list_all-append, list_all-map}
 use Rattle.std.proofs.lemmas.Bool.Decides.{nat_tests}
 use Rattle.lama_num.specs.Lists.{both}
 use Rattle.sas_task.specs.Costs.{adjusted_cost}
@@ -16,14 +18,11 @@ use Rattle.sas_task.specs.declared.contents.Operator.{Operator}
 use Rattle.sas_task.specs.declared.contents.Rule.{Rule}
 use Rattle.sas_task.specs.declared.contents.Parts.{Parts}
 use Rattle.relaxed_task.specs.declared.unary.Unary.{Unary}
-use Rattle.relaxed_task.specs.Numbers.{number_by, number_of, numbers_of, fact_at, distinct}
-use Rattle.relaxed_task.specs.NumberLaws.{number_by-is, number_below, is_numbered, state_fact}
-use Rattle.relaxed_task.specs.Unaries.{by_number, numbered_unaries}
-use Rattle.relaxed_task.specs.UnaryLaws.{distinct_numbers}
-use Rattle.relaxed_task.specs.UnaryOperators.{UnaryOperator, distinct_facts, from_effect, from_rule}
-use Rattle.relaxed_task.specs.NumberRounds.{defaults_of}
-use Rattle.relaxed_task.specs.Relaxations.{IsOffsets}
-use Rattle.relaxed_task.specs.Within.{weaker, effect_facts, operator_facts, rule_facts, operators_facts, rules_facts}
+use Rattle.relaxed_task.specs.Facts.{unary_operators, fact_at, default_facts, UnaryOperator, distinct_facts, from_effect, from_rule}
+use Rattle.relaxed_task.specs.Numbers.{number_by, number_of, numbers_of, distinct, by_number, numbered_unaries, is_unary_below}
+use Rattle.relaxed_task.specs.NumberLaws.{unary_there, unary_operators_there, goals_there, numbers_below, number_by-is, number_below, is_numbered, state_fact, numbers_same, by_pairs, defaults_there, distinct_numbers, weaker, effect_facts, operator_facts, rule_facts, operators_facts, rules_facts}
+use Rattle.relaxed_task.specs.Relaxations.{IsOffsets, IsRelaxed, IsSound}
+use Rattle.relaxed_task.specs.declared.relaxation.Lists.{Lists}
 use Rattle.relaxed_task.specs.Making.{has_number, have_numbers, effect_has_numbers, operator_has_numbers, rule_has_numbers, all_numbers_by, effect_by, rule_by, operator_by, operators_by, defaults_by}
 use Rattle.relaxed_task.specs.Elements.{join}
 
@@ -66,21 +65,11 @@ goals_numbered parts offsets n formed is count = facts_numbered parts.variables 
 
 -- numbers are the same
 
-numbers_same : (variables : List Variable) (offsets : List ℕ) (facts : List Fact) → IsOffsets variables offsets → list_all (is_fact variables) facts ≡ true → all_numbers_by offsets facts ≡ numbers_of variables facts
-numbers_same variables offsets [] is all = refl
-numbers_same variables offsets (f ∷ facts) is all =
-    let t = both (is_fact variables f) (list_all (is_fact variables) facts) all in
-    rw (number_by-is variables offsets f is t.0, numbers_same variables offsets facts is t.1) refl
-
-all_of_two : (p : Fact → Bool) (xs ys : List Fact) → list_all p xs ≡ true → list_all p ys ≡ true → list_all p (xs ++ ys) ≡ true
-all_of_two p [] ys a b = b
-all_of_two p (x ∷ xs) ys a b = let t = both (p x) (list_all p xs) a in join _ _ t.0 (all_of_two p xs ys t.1 b)
-
 effect_same : (parts : Parts) (kind : CostKind) (offsets : List ℕ) (op : ℕ) (o : Operator) (e : Effect) → IsOffsets parts.variables offsets → list_all (is_fact parts.variables) o.pre ≡ true → effect_facts parts.variables e ≡ true →
     effect_by offsets op (adjusted_cost parts op kind) o.pre e ≡ by_number parts.variables (from_effect parts kind op o e)
 effect_same parts kind offsets op o e is pre all =
     let t = both (list_all (is_fact parts.variables) e.conds) (is_fact parts.variables e.fact) all in
-    let facts = all_of_two (is_fact parts.variables) o.pre e.conds pre t.0 in
+    let facts = list_all-append (is_fact parts.variables) o.pre e.conds ∙ join _ _ pre t.0 in
     rw (numbers_same parts.variables offsets (o.pre ++ e.conds) is facts, distinct_numbers parts.variables (o.pre ++ e.conds) facts, number_by-is parts.variables offsets e.fact is t.1) refl
 
 effects_same : (parts : Parts) (kind : CostKind) (offsets : List ℕ) (op : ℕ) (o : Operator) (effects : List Effect) → IsOffsets parts.variables offsets → list_all (is_fact parts.variables) o.pre ≡ true → list_all (effect_facts parts.variables) effects ≡ true →
@@ -130,30 +119,15 @@ goals_same parts offsets goals formed is made =
 
 -- the defaults
 
-defaults_from : (variables : List Variable) (offsets : List ℕ) (k : ℕ) (init : List ℕ) → ((i : ℕ) → i < length init → number_by offsets (fact_at (k + i) (slice_index init i)) ≡ number_of variables (fact_at (k + i) (slice_index init i))) →
-    map (λ p. number_by offsets (fact_at p.0 p.1)) (filter (λ p. is_derived variables p.0) (enumerate_from k init)) ≡ map (λ p. number_of variables (fact_at p.0 p.1)) (filter (λ p. is_derived variables p.0) (enumerate_from k init))
-defaults_from variables offsets k [] same = refl
-defaults_from variables offsets k (x ∷ init) same =
-    let z : k + 0 ≡ k = omega arith in
-    let here : number_by offsets (fact_at k x) ≡ number_of variables (fact_at k x) = rw z at (same 0 (omega arith)) in
-    by_test (is_derived variables k) here (defaults_from variables offsets (k + 1) init (λ i lt. let e : k + suc i ≡ (k + 1) + i = omega arith in rw e at (same (suc i) (omega arith))))
-  where
-    rest : List (ℕ × ℕ)
-    rest = filter (λ p. is_derived variables p.0) (enumerate_from (k + 1) init)
-
-    by_test : (b : Bool) → number_by offsets (fact_at k x) ≡ number_of variables (fact_at k x) → map (λ p. number_by offsets (fact_at p.0 p.1)) rest ≡ map (λ p. number_of variables (fact_at p.0 p.1)) rest →
-        map (λ p. number_by offsets (fact_at p.0 p.1)) (if b then (k, x) ∷ rest else rest) ≡ map (λ p. number_of variables (fact_at p.0 p.1)) (if b then (k, x) ∷ rest else rest)
-    by_test true here more = rw (here, more) refl
-    by_test false here more = more
-
 initial_number : (parts : Parts) (offsets : List ℕ) (var : ℕ) → IsWellFormed parts → IsOffsets parts.variables offsets → var < length parts.init →
     number_by offsets (fact_at var (slice_index parts.init var)) ≡ number_of parts.variables (fact_at var (slice_index parts.init var))
 initial_number parts offsets var formed is lt =
     let init = init-state parts formed in
     number_by-is parts.variables offsets (fact_at var (slice_index parts.init var)) is (state_fact parts.variables parts.init var init (omega (arith, init.long)))
 
-pub defaults_same : (parts : Parts) (offsets : List ℕ) → IsWellFormed parts → IsOffsets parts.variables offsets → defaults_by offsets parts.variables parts.init ≡ defaults_of parts
-defaults_same parts offsets formed is = defaults_from parts.variables offsets 0 parts.init (λ i lt. let z : 0 + i ≡ i = omega arith in rw z (initial_number parts offsets i formed is lt))
+pub defaults_same : (parts : Parts) (offsets : List ℕ) → IsWellFormed parts → IsOffsets parts.variables offsets → defaults_by offsets parts.variables parts.init ≡ numbers_of parts.variables (default_facts parts)
+defaults_same parts offsets formed is =
+    by_pairs offsets (filter (λ p. is_derived parts.variables p.0) (enumerate_from 0 parts.init)) ∙ numbers_same parts.variables offsets (default_facts parts) is (defaults_there parts formed)
 
 -- the sums of where facts begin and initial values are small
 pub defaults_small : (parts : Parts) (offsets : List ℕ) (var : ℕ) → IsWellFormed parts → IsOffsets parts.variables offsets → var < length parts.init → slice_index offsets var + slice_index parts.init var < 4294967296
@@ -164,3 +138,21 @@ defaults_small parts offsets var formed is lt =
     let few = formed.few_facts in
     let same : slice_index offsets var + slice_index parts.init var ≡ number_of parts.variables (fact_at var (slice_index parts.init var)) = initial_number parts offsets var formed is lt in
     omega (arith, less, few, same)
+
+-- The relaxation of a task is sound.
+pub relaxed_sound : (parts : Parts) (kind : CostKind) (lists : Lists) → IsRelaxed parts kind lists → IsSound lists
+relaxed_sound parts kind lists is =
+    let formed = is.well_formed in
+    let few = formed.few_facts in
+    record {
+      few = omega (arith, few, is.facts);
+      unaries = rw (is.facts, is.unaries) (list_all-map (is_unary_below (fact_count parts.variables)) (by_number parts.variables) (unary_operators parts kind)
+          ∙ weaker (unary_there parts.variables) (λ u. is_unary_below (fact_count parts.variables) (by_number parts.variables u)) (unary_operators parts kind) below (unary_operators_there parts kind formed));
+      defaults = rw (is.facts, is.defaults) (numbers_below parts.variables (default_facts parts) (defaults_there parts formed));
+      goals = rw (is.facts, is.goals) (numbers_below parts.variables (distinct_facts parts.goal) (goals_there parts formed));
+    }
+  where
+    below : (u : UnaryOperator) → unary_there parts.variables u ≡ true → is_unary_below (fact_count parts.variables) (by_number parts.variables u) ≡ true
+    below u is =
+        let t = both (list_all (is_fact parts.variables) u.conds) (is_fact parts.variables u.gives) is in
+        join _ _ (numbers_below parts.variables u.conds t.0) (lt-ltb (number_of parts.variables u.gives) (fact_count parts.variables) (number_below parts.variables u.gives t.1))

@@ -11,8 +11,8 @@ use Rattle.sas_task.specs.declared.contents.Operator.{Operator}
 use Rattle.sas_task.specs.declared.contents.Rule.{Rule}
 use Rattle.sas_task.specs.declared.contents.Parts.{Parts}
 use Rattle.relaxed_task.specs.declared.unary.Unary.{Unary}
-use Rattle.relaxed_task.specs.Numbers.{number_by, fact_at, distinct}
-use Rattle.relaxed_task.specs.NumberRounds.{is_among}
+use Rattle.relaxed_task.specs.Facts.{fact_at}
+use Rattle.relaxed_task.specs.Numbers.{number_by, distinct, is_among}
 
 abbrev pub is_marked : List Bool → ℕ → Bool
 is_marked marks fact = slice_index_or marks fact false

@@ -1,176 +1,247 @@
--- A relaxed plan over the numbers of facts is one over facts.
-use Rattle.std.specs.Prelude.{◌≡◌, ℕ, zero, suc, List, [], ◌∷◌, ◌++◌, Bool, true, ◌||◌, nat_eq, map, Some, None, slice_get}
-use Rattle.std.specs.List.{list_all, list_any}
-use Rattle.std.proofs.Common.{refl, sym, ap, subst, ◌∙◌}
+-- Laws of relaxed plans, over any type of fact: best supporters give every fact that costs something finite, and those of an order that are needed are a relaxed plan.
+use Rattle.std.proofs.Common.{◌≡◌, ◌∙◌, sym, ap, subst, refl, ℕ, zero, suc, ◌<◌, ◌≤◌, ◌⊎◌, inl, inr, List, [], ◌∷◌, ◌++◌, map, Bool, true, false, not, ◌&&◌, ◌||◌, arith, if◌then◌else◌, Some, slice_get}
+use Rattle.std.specs.List.{list_all}
+use Rattle.std.proofs.lemmas.Bool.{and_from, and_parts, or_left, or_right, or_cases, both_ways, false_from_ne_true}
 use Rattle.std.proofs.lemmas.List.Folds.{list_any-append}
 use Rattle.lama_num.specs.declared.estimates.Estimate.{Estimate}
-use Rattle.lama_num.specs.declared.estimates.Estimate.TheVariants.{Finite}
+use Rattle.lama_num.specs.declared.estimates.Estimate.TheVariants.{Finite, Infinite}
 use Rattle.lama_num.specs.Estimates.{estimate_sum}
-use Rattle.lama_num.specs.Lists.{both, list_all_get}
-use Rattle.sas_task.specs.Facts.{same_fact, has_fact}
-use Rattle.sas_task.specs.Laws.{goal-facts}
-use Rattle.sas_task.specs.States.{IsState}
-use Rattle.sas_task.specs.WellFormed.{IsWellFormed, is_fact}
-use Rattle.sas_task.specs.declared.contents.CostKind.{CostKind}
-use Rattle.sas_task.specs.declared.contents.Fact.{Fact}
-use Rattle.sas_task.specs.declared.contents.Parts.{Parts}
-use Rattle.sas_task.specs.declared.contents.Variable.{Variable}
-use Rattle.relaxed_task.specs.declared.unary.Unary.{Unary}
-use Rattle.relaxed_task.specs.AdditiveCosts.{price_of}
-use Rattle.relaxed_task.specs.CostLaws.{sum_by_number}
-use Rattle.relaxed_task.specs.Elements.{join}
-use Rattle.relaxed_task.specs.Estimates.{is_finite}
-use Rattle.relaxed_task.specs.FactLaws.{Agree, number_test, fact_test, among_numbers, start_test, all_numbers, all_once, any_once}
-use Rattle.relaxed_task.specs.NumberPlans.{IsBest as IsBestByNumber, AreBest as AreBestByNumber, IsInOrder as IsInOrderByNumber, asked as asked_by_number, IsAsked as IsAskedByNumber, IsSupported as IsSupportedByNumber}
-use Rattle.relaxed_task.specs.NumberRounds.{is_among, start_facts}
-use Rattle.relaxed_task.specs.NumberSums.{costs_by, price}
-use Rattle.relaxed_task.specs.Numbers.{number_of, numbers_of}
-use Rattle.relaxed_task.specs.Plans.{IsBest, AreBest, IsInOrder, asked, IsAsked, is_supported, IsSupported}
-use Rattle.relaxed_task.specs.Reached.{is_at_start}
-use Rattle.relaxed_task.specs.Unaries.{by_number, numbered_unaries}
-use Rattle.relaxed_task.specs.UnaryLaws.{unary_facts, unary_operators_within}
-use Rattle.relaxed_task.specs.UnaryOperators.{UnaryOperator, distinct_facts, unary_operators}
+use Rattle.relaxed_task.specs.Estimates.{least, is_finite, IsAtMost}
+use Rattle.relaxed_task.specs.EstimateLaws.{at_most_self, at_most_trans, at_most_both, finite_below, least_cases, IsCapped, least_capped, plus_left, plus_right}
+use Rattle.relaxed_task.specs.CostLaws.{sum_capped, price_at_most, least_price_capped, least_closed, AreLeast, Cheapest, cheapest}
+use Rattle.relaxed_task.specs.Relaxing.{UnaryOver, has, sum_of, price_of, least_price, cost_in, AreBest, IsInOrder, asked, IsAsked, IsSupported, kept}
 
--- a unary operator of the task with these numbers
-record Named (parts : Parts) (kind : CostKind) (value : ℕ → Estimate) (u : Unary) : Type 0 where
-  unary : UnaryOperator
-  numbers : by_number parts.variables unary ≡ u
-  best : IsBest parts kind (costs_by parts.variables value) unary
-  within : unary_facts parts.variables unary ≡ true
+-- facts that have the start and are closed under best supporters
+pub record IsSupportClosed {F U : Type 0} (o : UnaryOver F U) (unaries : List U) (start without : List F) (costs : F → Estimate) (had : F → Bool) : Type 0 where
+  pub start_has : (fact : F) → (has o start fact && not (has o without fact)) ≡ true → had fact ≡ true
+  pub more : (i : ℕ) (u : U) → slice_get unaries i ≡ Some u → list_all had (o.conds u) ≡ true → is_finite (costs (o.gives u)) ≡ true → price_of o costs u ≡ costs (o.gives u) → had (o.gives u) ≡ true
 
-mapped : {X Y : Type 0} (f : X → Y) (xs : List X) (i : ℕ) (y : Y) → slice_get (map f xs) i ≡ Some y → (x : X) × (slice_get xs i ≡ Some x) × (f x ≡ y)
-mapped f [] i y at = let k : None ≡ Some y = at in cc
-mapped f (x ∷ xs) zero y at = let k : Some (f x) ≡ Some y = at in (x, refl, cc)
-mapped f (x ∷ xs) (suc i) y at = mapped f xs i y at
+module _ {F U : Type 0} (o : UnaryOver F U) (unaries : List U) (start without : List F) where
+  abbrev round : ℕ → F → Estimate
+  round n = cost_in o unaries start without n
 
-named : (parts : Parts) (kind : CostKind) (value : ℕ → Estimate) (u : Unary) → IsWellFormed parts → IsBestByNumber (numbered_unaries parts kind) value u → Named parts kind value u
-named parts kind value u formed best =
-    let found = mapped (by_number parts.variables) (unary_operators parts kind) best.place u best.at in
-    let unary : UnaryOperator = found.0 in
-    let numbers : by_number parts.variables unary ≡ u = found.2 in
-    let gives : value (number_of parts.variables unary.gives) ≡ value u.gives = ap (λ (v : Unary). value v.gives) numbers in
-    let price_is : price value (by_number parts.variables unary) ≡ price_of (costs_by parts.variables value) unary = ap (estimate_sum (Finite unary.cost)) (sum_by_number parts.variables value unary.conds) in
-    record {
-      unary = unary;
-      numbers = numbers;
-      best = record {
-        place = best.place;
-        at = found.1;
-        finite = ap is_finite gives ∙ best.finite;
-        pays = sym price_is ∙ (ap (price value) numbers ∙ (best.pays ∙ sym gives));
-      };
-      within = list_all_get (unary_facts parts.variables) (unary_operators parts kind) best.place unary (unary_operators_within parts kind formed) found.1;
+  round_capped : (n : ℕ) (fact : F) → IsCapped (round n fact)
+  round_capped zero fact = by_test (has o start fact && not (has o without fact))
+    where
+      by_test : (b : Bool) → IsCapped (if b then Finite 0 else Infinite)
+      by_test true = omega arith
+      by_test false = tt
+  round_capped (suc n) fact = by_test (has o without fact) (round_capped n fact)
+    where
+      by_test : (b : Bool) → IsCapped (round n fact) → IsCapped (if b then Infinite else least (round n fact) (least_price o (round n) fact unaries))
+      by_test true before = tt
+      by_test false before = least_capped (round n fact) (least_price o (round n) fact unaries) before (least_price_capped o (round n) fact unaries)
+
+  module _ (h : F → Estimate) (had : F → Bool) (l : AreLeast o unaries start without h) (closed : IsSupportClosed o unaries start without h had) where
+    -- had are those that cost less than a bound, and those that cost no more by a round
+    abbrev HasBelow : ℕ → Type 0
+    HasBelow bound = (fact : F) (n : ℕ) → h fact ≡ Finite n → n < bound → had fact ≡ true
+
+    abbrev HasRound : ℕ → ℕ → Type 0
+    HasRound bound n = (fact : F) (k : ℕ) → h fact ≡ Finite k → k ≤ bound → round n fact ≡ Finite k → had fact ≡ true
+
+    -- the conditions of a best supporter
+    conds_had : (bound r n : ℕ) (conds : List F) → HasBelow bound → HasRound bound r → n ≤ bound → IsAtMost (sum_of (round r) conds) (Finite n) → list_all had conds ≡ true
+    conds_had bound r n [] below earlier le paid = refl
+    conds_had bound r n (c ∷ conds) below earlier le paid =
+        and_from (had c) (list_all had conds) (by_order (order cost.0 bound))
+        (conds_had bound r n conds below earlier le
+        (at_most_trans (sum_of w conds) (estimate_sum (w c) (sum_of w conds)) (Finite n) (plus_right (w c) (sum_of w conds) (sum_capped w conds)) paid))
+      where
+        w : F → Estimate
+        w = round r
+
+        here : IsAtMost (w c) (Finite n)
+        here = at_most_trans (w c) (estimate_sum (w c) (sum_of w conds)) (Finite n) (plus_left (w c) (sum_of w conds) (round_capped r c)) paid
+
+        cost : (k : ℕ) × (h c ≡ Finite k) × (k ≤ n)
+        cost = finite_below (h c) n (at_most_trans (h c) (w c) (Finite n) ((l c).least r) here)
+
+        order : (a b : ℕ) → (a < b) ⊎ (b ≤ a)
+        order a b = grind arith
+
+        by_order : (cost.0 < bound) ⊎ (bound ≤ cost.0) → had c ≡ true
+        by_order (inl lt) = below c cost.0 cost.1 lt
+        by_order (inr ge) =
+            let same : n ≡ cost.0 = omega (arith, cost.2) in
+            let up : IsAtMost (w c) (Finite cost.0) = subst (λ (k : ℕ). IsAtMost (w c) (Finite k)) same here in
+            let down : IsAtMost (Finite cost.0) (w c) = subst (λ (e : Estimate). IsAtMost e (w c)) cost.1 ((l c).least r) in
+            earlier c cost.0 cost.1 (omega (arith, cost.2)) (at_most_both (w c) (Finite cost.0) up down)
+
+    next_had : (bound r : ℕ) → HasBelow bound → HasRound bound r → HasRound bound (suc r)
+    next_had bound r below earlier fact n costs le is = by_out (has o without fact) refl is
+      where
+        w : F → Estimate
+        w = round r
+
+        by_best : has o without fact ≡ false → Cheapest o unaries w fact n → had fact ≡ true
+        by_best stays b =
+            let conds = o.conds b.unary in
+            let paid : IsAtMost (price_of o w b.unary) (Finite n) = rw b.pays (at_most_self (Finite n)) in
+            let there = conds_had bound r n conds below earlier le
+            (at_most_trans (sum_of w conds) (price_of o w b.unary) (Finite n) (plus_right (Finite (o.cost b.unary)) (sum_of w conds) (sum_capped w conds)) paid) in
+            let same : h (o.gives b.unary) ≡ Finite n = ap h b.gives ∙ costs in
+            let up : IsAtMost (price_of o h b.unary) (h (o.gives b.unary)) = rw same (at_most_trans (price_of o h b.unary) (price_of o w b.unary) (Finite n) (price_at_most o h w b.unary (λ f. (l f).least r)) paid) in
+            let pays = at_most_both (price_of o h b.unary) (h (o.gives b.unary)) up (least_closed o unaries start without h l b.place b.unary b.at (ap (has o without) b.gives ∙ stays)) in
+            ap had (sym b.gives) ∙ closed.more b.place b.unary b.at there (ap is_finite same) pays
+
+        by_case : has o without fact ≡ false → (w fact ≡ Finite n) ⊎ (least_price o w fact unaries ≡ Finite n) → had fact ≡ true
+        by_case stays (inl before) = earlier fact n costs le before
+        by_case stays (inr now) = by_best stays (cheapest o unaries w fact n now)
+
+        by_out : (b : Bool) → has o without fact ≡ b → (if b then Infinite else least (w fact) (least_price o w fact unaries)) ≡ Finite n → had fact ≡ true
+        by_out true out is = let k : Infinite ≡ Finite n = is in cc
+        by_out false stays is = by_case stays (least_cases (w fact) (least_price o w fact unaries) n is)
+
+    rounds_had : (bound r : ℕ) → HasBelow bound → HasRound bound r
+    rounds_had bound zero below fact n costs le is = by_test (has o start fact && not (has o without fact)) refl is
+      where
+        by_test : (b : Bool) → (has o start fact && not (has o without fact)) ≡ b → (if b then Finite 0 else Infinite) ≡ Finite n → had fact ≡ true
+        by_test true first is = closed.start_has fact first
+        by_test false first is = let k : Infinite ≡ Finite n = is in cc
+    rounds_had bound (suc r) below fact n costs le is = next_had bound r below (rounds_had bound r below) fact n costs le is
+
+    below_had : (bound : ℕ) → HasBelow bound
+    below_had zero fact n costs lt = absurd (omega arith)
+    below_had (suc bound) fact n costs lt = rounds_had bound (l fact).round (below_had bound) fact n costs (omega arith) ((l fact).is ∙ costs)
+
+    -- Every fact that costs something finite is among them.
+    pub finite_had : (fact : F) → is_finite (h fact) ≡ true → had fact ≡ true
+    finite_had fact finite = by_value (h fact) refl finite
+      where
+        by_value : (e : Estimate) → h fact ≡ e → is_finite e ≡ true → had fact ≡ true
+        by_value (Finite n) costs finite = below_had (suc n) fact n costs (omega arith)
+        by_value Infinite costs finite = let k : false ≡ true = finite in cc
+
+-- What is needed of an order.
+
+module _ {F U : Type 0} (o : UnaryOver F U) where
+  turned : (a b : F) → o.same a b ≡ true → o.same b a ≡ true
+  turned a b h = ap (λ x. o.same b x) (o.equal a b h) ∙ o.itself b
+
+  pub has_same : (facts : List F) (a b : F) → o.same a b ≡ true → has o facts b ≡ true → has o facts a ≡ true
+  has_same facts a b h has_b = ap (has o facts) (o.equal a b h) ∙ has_b
+
+  pub has_append : (xs ys : List F) (fact : F) → has o (xs ++ ys) fact ≡ (has o xs fact || has o ys fact)
+  has_append xs ys fact = list_any-append (o.same fact) xs ys
+
+  -- what holds of all of a list holds of each of its facts
+  pub all_has : (p : F → Bool) (xs : List F) (fact : F) → list_all p xs ≡ true → has o xs fact ≡ true → p fact ≡ true
+  all_has p [] fact all among = let k : false ≡ true = among in cc
+  all_has p (x ∷ xs) fact all among = by_case (or_cases (o.same fact x) (has o xs fact) among) (all_has p xs fact (and_parts (p x) (list_all p xs) all).1)
+    where
+      by_case : (o.same fact x ≡ true) ⊎ (has o xs fact ≡ true) → (has o xs fact ≡ true → p fact ≡ true) → p fact ≡ true
+      by_case (inl here) later = ap p (o.equal fact x here) ∙ (and_parts (p x) (list_all p xs) all).0
+      by_case (inr there) later = later there
+
+  pub all_from : (p : F → Bool) (xs : List F) → ((fact : F) → has o xs fact ≡ true → p fact ≡ true) → list_all p xs ≡ true
+  all_from p [] each = refl
+  all_from p (x ∷ xs) each =
+      and_from (p x) (list_all p xs) (each x (or_left (o.same x x) (has o xs x) (o.itself x))) (all_from p xs (λ fact among. each fact (or_right (o.same fact x) (has o xs fact) among)))
+
+  module _ (goals : List F) where
+    kept_asked : (list : List U) → IsAsked o goals (kept o goals list)
+    kept_asked [] = tt
+    kept_asked (u ∷ list) = by_test (has o (asked o goals (kept o goals list)) (o.gives u)) refl (kept_asked list)
+      where
+        by_test : (b : Bool) → has o (asked o goals (kept o goals list)) (o.gives u) ≡ b → IsAsked o goals (kept o goals list) → IsAsked o goals (if b then u ∷ kept o goals list else kept o goals list)
+        by_test true is rest = (is, rest)
+        by_test false is rest = rest
+
+    kept_best : (unaries : List U) (costs : F → Estimate) (list : List U) → AreBest o unaries costs list → AreBest o unaries costs (kept o goals list)
+    kept_best unaries costs [] best = tt
+    kept_best unaries costs (u ∷ list) best = by_test (has o (asked o goals (kept o goals list)) (o.gives u)) (kept_best unaries costs list best.1)
+      where
+        by_test : (b : Bool) → AreBest o unaries costs (kept o goals list) → AreBest o unaries costs (if b then u ∷ kept o goals list else kept o goals list)
+        by_test true rest = (best.0, rest)
+        by_test false rest = rest
+
+    -- what is had and asked for is in the base
+    abbrev IsBase : List U → List F → List F → Type 0
+    IsBase list had base = (fact : F) → has o (asked o goals list) fact ≡ true → has o had fact ≡ true → has o base fact ≡ true
+
+    -- a condition of the first is asked for, and so is what the rest asks for
+    asks_conds : (u : U) (list : List U) (fact : F) → has o (o.conds u) fact ≡ true → has o (asked o goals (u ∷ list)) fact ≡ true
+    asks_conds u list fact h = has_append (o.conds u) (asked o goals list) fact ∙ or_left (has o (o.conds u) fact) (has o (asked o goals list) fact) h
+
+    asks_rest : (u : U) (list : List U) (fact : F) → has o (asked o goals list) fact ≡ true → has o (asked o goals (u ∷ list)) fact ≡ true
+    asks_rest u list fact h = has_append (o.conds u) (asked o goals list) fact ∙ or_right (has o (o.conds u) fact) (has o (asked o goals list) fact) h
+
+    base_kept : (u : U) (list : List U) (had base : List F) → IsBase (u ∷ list) had base → IsBase list (o.gives u ∷ had) (o.gives u ∷ base)
+    base_kept u list had base is fact asks has_it = by_case (or_cases (o.same fact (o.gives u)) (has o had fact) has_it)
+      where
+        by_case : (o.same fact (o.gives u) ≡ true) ⊎ (has o had fact ≡ true) → has o (o.gives u ∷ base) fact ≡ true
+        by_case (inl here) = or_left (o.same fact (o.gives u)) (has o base fact) here
+        by_case (inr there) = or_right (o.same fact (o.gives u)) (has o base fact) (is fact (asks_rest u list fact asks) there)
+
+    base_left : (u : U) (list : List U) (had base : List F) → has o (asked o goals list) (o.gives u) ≡ false → IsBase list had base → IsBase list (o.gives u ∷ had) base
+    base_left u list had base not_asked is fact asks has_it = by_case (or_cases (o.same fact (o.gives u)) (has o had fact) has_it)
+      where
+        by_case : (o.same fact (o.gives u) ≡ true) ⊎ (has o had fact ≡ true) → has o base fact ≡ true
+        by_case (inl here) = absurd (both_ways (has o (asked o goals list) (o.gives u)) not_asked (has_same (asked o goals list) (o.gives u) fact (turned fact (o.gives u) here) asks))
+        by_case (inr there) = is fact asks there
+
+    abbrev IsWithin : List F → List F → Type 0
+    IsWithin xs ys = (fact : F) → has o xs fact ≡ true → has o ys fact ≡ true
+
+    kept_order : (list : List U) (had base : List F) → IsInOrder o had list → IsBase (kept o goals list) had base → IsWithin base had → IsInOrder o base (kept o goals list)
+    kept_order [] had base order is within = tt
+    kept_order (u ∷ list) had base order is within =
+        by_test (has o (asked o goals (kept o goals list)) (o.gives u)) refl is
+        (λ more. kept_order list (o.gives u ∷ had) (o.gives u ∷ base) order.2 more (λ fact among. longer fact (or_cases (o.same fact (o.gives u)) (has o base fact) among)))
+        (λ more. kept_order list (o.gives u ∷ had) base order.2 more (λ fact among. or_right (o.same fact (o.gives u)) (has o had fact) (within fact among)))
+      where
+        longer : (fact : F) → (o.same fact (o.gives u) ≡ true) ⊎ (has o base fact ≡ true) → has o (o.gives u ∷ had) fact ≡ true
+        longer fact (inl here) = or_left (o.same fact (o.gives u)) (has o had fact) here
+        longer fact (inr there) = or_right (o.same fact (o.gives u)) (has o had fact) (within fact there)
+
+        by_test : (b : Bool) → has o (asked o goals (kept o goals list)) (o.gives u) ≡ b → IsBase (if b then u ∷ kept o goals list else kept o goals list) had base →
+            (IsBase (kept o goals list) (o.gives u ∷ had) (o.gives u ∷ base) → IsInOrder o (o.gives u ∷ base) (kept o goals list)) →
+            (IsBase (kept o goals list) (o.gives u ∷ had) base → IsInOrder o base (kept o goals list)) → IsInOrder o base (if b then u ∷ kept o goals list else kept o goals list)
+        by_test true asks is longer_base same_base = (
+          all_from (has o base) (o.conds u) (λ fact among. is fact (asks_conds u (kept o goals list) fact among) (all_has (has o had) (o.conds u) fact order.0 among)),
+          false_from_ne_true (has o base (o.gives u)) (λ is. both_ways (has o had (o.gives u)) order.1 (within (o.gives u) is)),
+          longer_base (base_kept u (kept o goals list) had base is),
+        )
+        by_test false asks is longer_base same_base = same_base (base_left u (kept o goals list) had base asks is)
+
+    -- a goal fact that is given is given by what is kept
+    kept_gives : (list : List U) (had base : List F) (goal : F) → has o goals goal ≡ true → IsBase (kept o goals list) had base →
+        (has o had goal || has o (map o.gives list) goal) ≡ true → (has o base goal || has o (map o.gives (kept o goals list)) goal) ≡ true
+    kept_gives [] had base goal ours is given = by_case (or_cases (has o had goal) false given)
+      where
+        by_case : (has o had goal ≡ true) ⊎ (false ≡ true) → (has o base goal || false) ≡ true
+        by_case (inl has_it) = or_left (has o base goal) false (is goal ours has_it)
+        by_case (inr no_more) = cc
+    kept_gives (u ∷ list) had base goal ours is given =
+        by_test (has o (asked o goals (kept o goals list)) (o.gives u)) refl is
+        (λ more. kept_gives list (o.gives u ∷ had) (o.gives u ∷ base) goal ours more moved)
+        (λ more. kept_gives list (o.gives u ∷ had) base goal ours more moved)
+      where
+        move : (a b c : Bool) → (a || (b || c)) ≡ ((b || a) || c)
+        move true true c = refl
+        move true false c = refl
+        move false true c = refl
+        move false false c = refl
+
+        moved : (has o (o.gives u ∷ had) goal || has o (map o.gives list) goal) ≡ true
+        moved = sym (move (has o had goal) (o.same goal (o.gives u)) (has o (map o.gives list) goal)) ∙ given
+
+        by_test : (b : Bool) → has o (asked o goals (kept o goals list)) (o.gives u) ≡ b → IsBase (if b then u ∷ kept o goals list else kept o goals list) had base →
+            (IsBase (kept o goals list) (o.gives u ∷ had) (o.gives u ∷ base) → (has o (o.gives u ∷ base) goal || has o (map o.gives (kept o goals list)) goal) ≡ true) →
+            (IsBase (kept o goals list) (o.gives u ∷ had) base → (has o base goal || has o (map o.gives (kept o goals list)) goal) ≡ true) →
+            (has o base goal || has o (map o.gives (if b then u ∷ kept o goals list else kept o goals list)) goal) ≡ true
+        by_test true asks is longer_base same_base = move (has o base goal) (o.same goal (o.gives u)) (has o (map o.gives (kept o goals list)) goal) ∙ longer_base (base_kept u (kept o goals list) had base is)
+        by_test false asks is longer_base same_base = same_base (base_left u (kept o goals list) had base asks is)
+
+    -- What is needed of an order of best supporters that reaches the goal facts is a relaxed plan.
+    pub kept_is_supported : (unaries : List U) (start : List F) (costs : F → Estimate) (list : List U) → AreBest o unaries costs list → IsInOrder o start list →
+        list_all (has o (start ++ map o.gives list)) goals ≡ true → IsSupported o unaries start costs goals (kept o goals list)
+    kept_is_supported unaries start costs list best order given = record {
+      best = kept_best unaries costs list best;
+      order = kept_order list start start order (λ fact asks had. had) (λ fact among. among);
+      needed = kept_asked list;
+      goals_given = all_from (has o (start ++ map o.gives (kept o goals list))) goals (λ goal ours.
+          has_append start (map o.gives (kept o goals list)) goal
+          ∙ kept_gives list start start goal ours (λ fact asks had. had) (sym (has_append start (map o.gives list) goal) ∙ all_has (has o (start ++ map o.gives list)) goals goal given ours));
     }
-
--- unary operators of the task with these numbers
-record AllNamed (parts : Parts) (kind : CostKind) (value : ℕ → Estimate) (numbers : List Unary) : Type 0 where
-  list : List UnaryOperator
-  same : map (by_number parts.variables) list ≡ numbers
-  best : AreBest parts kind (costs_by parts.variables value) list
-  within : list_all (unary_facts parts.variables) list ≡ true
-
-all_named : (parts : Parts) (kind : CostKind) (value : ℕ → Estimate) (numbers : List Unary) → IsWellFormed parts → AreBestByNumber (numbered_unaries parts kind) value numbers → AllNamed parts kind value numbers
-all_named parts kind value [] formed best = record { list = []; same = refl; best = tt; within = refl }
-all_named parts kind value (u ∷ numbers) formed best =
-    let one = named parts kind value u formed best.0 in
-    let rest = all_named parts kind value numbers formed best.1 in
-    record {
-      list = one.unary ∷ rest.list;
-      same = ap (λ (v : Unary). v ∷ map (by_number parts.variables) rest.list) one.numbers ∙ ap (λ (vs : List Unary). u ∷ vs) rest.same;
-      best = (one.best, rest.best);
-      within = join _ _ one.within rest.within;
-    }
-
--- the order
-
-order_of_facts : (variables : List Variable) (facts : List ℕ) (there : Fact → Bool) (list : List UnaryOperator) → Agree variables (is_among facts) there → list_all (unary_facts variables) list ≡ true →
-    IsInOrderByNumber facts (map (by_number variables) list) → IsInOrder there list
-order_of_facts variables facts there [] agree within order = tt
-order_of_facts variables facts there (u ∷ list) agree within order =
-    let t = both (unary_facts variables u) (list_all (unary_facts variables) list) within in
-    let own = both (list_all (is_fact variables) u.conds) (is_fact variables u.gives) t.0 in (
-      sym (all_numbers variables (is_among facts) there u.conds agree own.0) ∙ order.0,
-      sym (agree u.gives own.1) ∙ order.1,
-      order_of_facts variables (number_of variables u.gives ∷ facts) (λ fact. same_fact u.gives fact || there fact) list (λ fact h. more u.gives fact own.1 h (agree fact h)) t.1 order.2,
-    )
-  where
-    more : (given fact : Fact) → is_fact variables given ≡ true → is_fact variables fact ≡ true → is_among facts (number_of variables fact) ≡ there fact →
-        is_among (number_of variables given ∷ facts) (number_of variables fact) ≡ (same_fact given fact || there fact)
-    more given fact g h rest = rw (number_test variables fact given h g, fact_test fact given, rest) refl
-
--- what is asked for
-
-asked_of_facts : (variables : List Variable) (facts : List ℕ) (goals : List Fact) (list : List UnaryOperator) → Agree variables (is_among facts) (has_fact goals) → list_all (unary_facts variables) list ≡ true →
-    Agree variables (is_among (asked_by_number facts (map (by_number variables) list))) (has_fact (asked goals list))
-asked_of_facts variables facts goals [] agree within = agree
-asked_of_facts variables facts goals (u ∷ list) agree within = λ fact h.
-    let t = both (unary_facts variables u) (list_all (unary_facts variables) list) within in
-    let own = both (list_all (is_fact variables) u.conds) (is_fact variables u.gives) t.0 in
-    list_any-append (nat_eq (number_of variables fact)) (numbers_of variables u.conds) (asked_by_number facts (map (by_number variables) list))
-    ∙ (ap (λ b. b || is_among (asked_by_number facts (map (by_number variables) list)) (number_of variables fact)) (among_numbers variables u.conds fact h own.0)
-    ∙ (ap (λ b. has_fact u.conds fact || b) (asked_of_facts variables facts goals list agree t.1 fact h)
-    ∙ sym (list_any-append (λ f. same_fact f fact) u.conds (asked goals list))))
-
-needed_of_facts : (variables : List Variable) (facts : List ℕ) (goals : List Fact) (list : List UnaryOperator) → Agree variables (is_among facts) (has_fact goals) → list_all (unary_facts variables) list ≡ true →
-    IsAskedByNumber facts (map (by_number variables) list) → IsAsked goals list
-needed_of_facts variables facts goals [] agree within needed = tt
-needed_of_facts variables facts goals (u ∷ list) agree within needed =
-    let t = both (unary_facts variables u) (list_all (unary_facts variables) list) within in
-    let gives = (both (list_all (is_fact variables) u.conds) (is_fact variables u.gives) t.0).1 in
-    (sym (asked_of_facts variables facts goals list agree t.1 u.gives gives) ∙ needed.0, needed_of_facts variables facts goals list agree t.1 needed.1)
-
--- the goals
-
-given_of_facts : (variables : List Variable) (list : List UnaryOperator) (fact : Fact) → list_all (unary_facts variables) list ≡ true → is_fact variables fact ≡ true →
-    is_among (map (λ u. u.gives) (map (by_number variables) list)) (number_of variables fact) ≡ list_any (λ u. same_fact u.gives fact) list
-given_of_facts variables [] fact within h = refl
-given_of_facts variables (u ∷ list) fact within h =
-    let t = both (unary_facts variables u) (list_all (unary_facts variables) list) within in
-    let gives = (both (list_all (is_fact variables) u.conds) (is_fact variables u.gives) t.0).1 in
-    rw (number_test variables fact u.gives h gives, fact_test fact u.gives, given_of_facts variables list fact t.1 h) refl
-
--- A list of unary operators of the task with the numbers of a relaxed plan, which is one too.
-pub record HasFacts (parts : Parts) (kind : CostKind) (state : List ℕ) (value : ℕ → Estimate) (numbers : List Unary) : Type 0 where
-  pub list : List UnaryOperator
-  pub same : map (by_number parts.variables) list ≡ numbers
-  pub supported : IsSupported parts kind state (costs_by parts.variables value) list
-
-pub supported_by_facts : (parts : Parts) (kind : CostKind) (state : List ℕ) (value : ℕ → Estimate) (numbers : List Unary) → IsWellFormed parts → IsState parts.variables state →
-    IsSupportedByNumber (numbered_unaries parts kind) (start_facts parts state) value (numbers_of parts.variables (distinct_facts parts.goal)) numbers → HasFacts parts kind state value numbers
-supported_by_facts parts kind state value numbers formed of is = record {
-  list = all.list;
-  same = all.same;
-  supported = record {
-    best = all.best;
-    order = order_of_facts parts.variables (start_facts parts state) (is_at_start parts state) all.list start all.within (subst (λ (us : List Unary). IsInOrderByNumber (start_facts parts state) us) (sym all.same) is.order);
-    needed = needed_of_facts parts.variables goals parts.goal all.list goal all.within (subst (λ (us : List Unary). IsAskedByNumber goals us) (sym all.same) is.needed);
-    goals = sym (all_once (is_supported parts state all.list) parts.goal) ∙ (sym (all_numbers parts.variables (is_among there) (is_supported parts state all.list) (distinct_facts parts.goal) supported once) ∙ reached);
-  };
-}
-  where
-    all : AllNamed parts kind value numbers
-    all = all_named parts kind value numbers formed is.best
-
-    goals : List ℕ
-    goals = numbers_of parts.variables (distinct_facts parts.goal)
-
-    there : List ℕ
-    there = start_facts parts state ++ map (λ u. u.gives) (map (by_number parts.variables) all.list)
-
-    start : Agree parts.variables (is_among (start_facts parts state)) (is_at_start parts state)
-    start fact h = start_test parts state fact formed of h
-
-    once : list_all (is_fact parts.variables) (distinct_facts parts.goal) ≡ true
-    once = all_once (is_fact parts.variables) parts.goal ∙ goal-facts parts formed
-
-    goal : Agree parts.variables (is_among goals) (has_fact parts.goal)
-    goal fact h = among_numbers parts.variables (distinct_facts parts.goal) fact h once ∙ any_once (λ g. same_fact g fact) parts.goal
-
-    supported : Agree parts.variables (is_among there) (is_supported parts state all.list)
-    supported fact h =
-        list_any-append (nat_eq (number_of parts.variables fact)) (start_facts parts state) (map (λ u. u.gives) (map (by_number parts.variables) all.list))
-        ∙ (ap (λ b. b || is_among (map (λ u. u.gives) (map (by_number parts.variables) all.list)) (number_of parts.variables fact)) (start fact h)
-        ∙ ap (λ b. is_at_start parts state fact || b) (given_of_facts parts.variables all.list fact all.within h))
-
-    reached : list_all (is_among there) goals ≡ true
-    reached = subst (λ (us : List Unary). list_all (is_among (start_facts parts state ++ map (λ u. u.gives) us)) goals ≡ true) (sym all.same) is.goals_given

@@ -1,18 +1,14 @@
--- What the relaxation reaches, by rounds, and dead states.
-use Rattle.std.specs.Prelude.{◌≡◌, ℕ, zero, suc, List, [], ◌++◌, Bool, false, ◌&&◌, ◌||◌, not, slice_get, Some, IsTrue}
+-- What the relaxation of a task reaches, by rounds, and dead states.
+use Rattle.std.specs.Prelude.{◌≡◌, ℕ, List, [], ◌++◌, Bool, false, ◌&&◌, ◌||◌, slice_get, Some, IsTrue}
 use Rattle.std.specs.List.{list_all, list_any}
-use Rattle.sas_task.specs.Facts.{same_fact, has_fact}
-use Rattle.sas_task.specs.WellFormed.{is_derived, is_default}
-use Rattle.sas_task.specs.States.{holds}
+use Rattle.sas_task.specs.Facts.{same_fact}
 use Rattle.sas_task.specs.declared.contents.Fact.{Fact}
 use Rattle.sas_task.specs.declared.contents.Effect.{Effect}
 use Rattle.sas_task.specs.declared.contents.Operator.{Operator}
 use Rattle.sas_task.specs.declared.contents.Rule.{Rule}
 use Rattle.sas_task.specs.declared.contents.Parts.{Parts}
-
--- it holds, or it is the default of a derived variable
-abbrev pub is_at_start : Parts → List ℕ → Fact → Bool
-is_at_start parts state fact = holds state fact || (is_derived parts.variables fact.var && is_default parts.init fact)
+use Rattle.relaxed_task.specs.Facts.{over_facts, start_facts}
+use Rattle.relaxed_task.specs.Relaxing.{has, in_round}
 
 -- the effect gives the fact, where the operator's conditions and its own are reached
 abbrev pub effect_gives : (Fact → Bool) → Fact → Operator → Effect → Bool
@@ -21,19 +17,18 @@ effect_gives reached fact operator effect = same_fact effect.fact fact && list_a
 abbrev pub rule_gives : (Fact → Bool) → Fact → Rule → Bool
 rule_gives reached fact rule = same_fact rule.head fact && list_all reached rule.conds
 
+-- given by an effect or a rule whose conditions are reached
 abbrev pub is_given : Parts → (Fact → Bool) → Fact → Bool
 is_given parts reached fact = list_any (λ o. list_any (effect_gives reached fact o) o.effects) parts.operators || list_any (rule_gives reached fact) parts.rules
 
--- Round 0 has what is there at the start. Each next one adds what effects and rules give whose conditions are in the round before.
--- What is left out is in no round.
+-- in a round from a state without some facts
 abbrev pub is_reached_in : Parts → List ℕ → List Fact → ℕ → Fact → Bool
-is_reached_in parts state without zero fact = is_at_start parts state fact && not (has_fact without fact)
-is_reached_in parts state without (suc n) fact =
-    is_reached_in parts state without n fact || (is_given parts (is_reached_in parts state without n) fact && not (has_fact without fact))
+is_reached_in parts state without = in_round (is_given parts) (has over_facts (start_facts parts state)) (has over_facts without)
 
 -- in some round
-abbrev pub IsReached : Parts → List ℕ → List Fact → Fact → Type 0
-IsReached parts state without fact = (n : ℕ) × IsTrue (is_reached_in parts state without n fact)
+pub record IsReached (parts : Parts) (state : List ℕ) (without : List Fact) (fact : Fact) : Type 0 where
+  pub round : ℕ
+  pub reached : IsTrue (is_reached_in parts state without round fact)
 
 -- some goal fact is in no round, with nothing left out
 pub record IsDead (parts : Parts) (state : List ℕ) : Type 0 where

@@ -6,10 +6,8 @@ use Rattle.sas_task.specs.declared.contents.CostKind.{CostKind}
 use Rattle.sas_task.specs.declared.contents.Variable.{Variable}
 use Rattle.sas_task.specs.declared.contents.Parts.{Parts}
 use Rattle.relaxed_task.specs.declared.relaxation.Lists.{Lists}
-use Rattle.relaxed_task.specs.Numbers.{numbers_of}
-use Rattle.relaxed_task.specs.Unaries.{numbered_unaries, is_below, is_unary_below}
-use Rattle.relaxed_task.specs.UnaryOperators.{distinct_facts}
-use Rattle.relaxed_task.specs.NumberRounds.{defaults_of}
+use Rattle.relaxed_task.specs.Facts.{default_facts, distinct_facts}
+use Rattle.relaxed_task.specs.Numbers.{numbers_of, numbered_unaries, is_below, is_unary_below}
 
 -- all facts are among those that there are, which aren't too many
 pub record IsSound (lists : Lists) : Type 0 where
@@ -29,5 +27,5 @@ pub record IsRelaxed (parts : Parts) (kind : CostKind) (lists : Lists) : Type 0 
   pub offsets : IsOffsets parts.variables lists.offsets
   pub facts : lists.facts ≡ fact_count parts.variables
   pub unaries : lists.unaries ≡ numbered_unaries parts kind
-  pub defaults : lists.defaults ≡ defaults_of parts
+  pub defaults : lists.defaults ≡ numbers_of parts.variables (default_facts parts)
   pub goals : lists.goals ≡ numbers_of parts.variables (distinct_facts parts.goal)

@@ -1,9 +1,10 @@
 // Lists of facts by number, each fact once.
-ghost use Rattle.std.specs.Prelude.{◌≡◌, ◌<◌, ◌≤◌, ◌++◌, ◌^◌, [], length, IsTrue, IfOk, OnOk};
+ghost use Rattle.std.specs.Prelude.{◌≡◌, ◌<◌, ◌≤◌, ◌++◌, ◌^◌, [], length};
+ghost use Rattle.std.specs.Prelude.{IsTrue, IfOk, OnOk};
 ghost use Rattle.std.specs.List.{list_all};
-ghost use Rattle.relaxed_task.specs.Numbers.{number_by, distinct};
-ghost use Rattle.relaxed_task.specs.Unaries.{is_below};
-ghost use Rattle.relaxed_task.specs.Making.{AreMarked, with_one, with_all, has_number, have_numbers, all_numbers_by};
+ghost use Rattle.relaxed_task.specs.Numbers.{number_by, distinct, is_below};
+ghost use Rattle.relaxed_task.specs.Making.{AreMarked, with_one, with_all};
+ghost use Rattle.relaxed_task.specs.Making.{have_numbers, all_numbers_by};
 
 use lama_num::Seq;
 use sas_task::Fact;
@@ -42,7 +43,8 @@ fn add_facts(
     requires few { length marks.old ≤ 4194304 }
     requires numbers { IsTrue (have_numbers offsets.now (length marks.old) more.now) }
     requires marked { AreMarked marks.old facts.old.items }
-    ensures facts { OnOk result (facts.new.items ≡ with_all facts.old.items (all_numbers_by offsets.now more.now)) }
+    ensures facts { OnOk result
+        (facts.new.items ≡ with_all facts.old.items (all_numbers_by offsets.now more.now)) }
     ensures marked { OnOk result (AreMarked marks.new facts.new.items) }
     ensures long { length marks.new ≡ length marks.old }
 {
@@ -79,7 +81,8 @@ pub fn conditions(
     requires first { IsTrue (have_numbers offsets.now (length marks.old) first.now) }
     requires second { IsTrue (have_numbers offsets.now (length marks.old) second.now) }
     requires clear { AreMarked marks.old [] }
-    ensures facts { IfOk result (λ facts. facts ≡ distinct (all_numbers_by offsets.now (first.now ++ second.now))) }
+    ensures facts { IfOk result
+        (λ facts. facts ≡ distinct (all_numbers_by offsets.now (first.now ++ second.now))) }
     ensures clear { OnOk result (AreMarked marks.new []) }
     ensures long { length marks.new ≡ length marks.old }
 {

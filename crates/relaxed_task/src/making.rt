@@ -1,16 +1,17 @@
 // Making the relaxation of a task.
-ghost use Rattle.std.specs.Prelude.{◌≡◌, ◌+◌, ◌≤◌, ◌<◌, ◌++◌, ◌^◌, ℕ, [], length, map, slice_index, IsTrue, IfOk, OnOk, List, Some, false};
+ghost use Rattle.std.specs.Prelude.{◌≡◌, ◌+◌, ◌≤◌, ◌<◌, ◌++◌, ◌^◌, ℕ, [], length, map, slice_index};
+ghost use Rattle.std.specs.Prelude.{IsTrue, IfOk, OnOk, List, Some, false};
 ghost use Rattle.std.specs.List.{list_all};
 ghost use Rattle.sas_task.specs.WellFormed.{fact_count, is_derived as derived};
 ghost use Rattle.sas_task.specs.States.{IsState};
 ghost use Rattle.sas_task.specs.Runs.{end_of, is_goal};
-ghost use Rattle.relaxed_task.specs.Numbers.{numbers_of};
-ghost use Rattle.relaxed_task.specs.Unaries.{numbered_unaries};
-ghost use Rattle.relaxed_task.specs.UnaryOperators.{distinct_facts};
-ghost use Rattle.relaxed_task.specs.NumberRounds.{defaults_of};
+ghost use Rattle.relaxed_task.specs.Facts.{default_facts, distinct_facts};
+ghost use Rattle.relaxed_task.specs.Numbers.{numbers_of, numbered_unaries};
 ghost use Rattle.relaxed_task.specs.Reached.{IsDead};
 ghost use Rattle.relaxed_task.specs.Relaxations.{IsOffsets, IsRelaxed};
-ghost use Rattle.relaxed_task.specs.Making.{AreMarked, have_numbers, effect_has_numbers, operator_has_numbers, rule_has_numbers, effect_by, rule_by, operators_by, defaults_by};
+ghost use Rattle.relaxed_task.specs.Making.{AreMarked, have_numbers, effect_has_numbers};
+ghost use Rattle.relaxed_task.specs.Making.{operator_has_numbers, rule_has_numbers};
+ghost use Rattle.relaxed_task.specs.Making.{effect_by, rule_by, operators_by, defaults_by};
 
 use crate::conditions::{conditions, number};
 use crate::relaxation::{Lists, Relaxed};
@@ -59,7 +60,8 @@ fn make_effect(
     requires pre { IsTrue (have_numbers offsets.now (length marks.old) pre.now) }
     requires effect { IsTrue (effect_has_numbers offsets.now (length marks.old) effect.now) }
     requires clear { AreMarked marks.old [] }
-    ensures unary { IfOk result (λ unary. unary ≡ effect_by offsets.now op cost pre.now effect.now) }
+    ensures unary { IfOk result
+        (λ unary. unary ≡ effect_by offsets.now op cost pre.now effect.now) }
     ensures clear { OnOk result (AreMarked marks.new []) }
     ensures long { length marks.new ≡ length marks.old }
 {
@@ -108,7 +110,8 @@ fn add_effects(
     requires few { length marks.old ≤ 4194304 }
     requires operator { IsTrue (operator_has_numbers offsets.now (length marks.old) operator.now) }
     requires clear { AreMarked marks.old [] }
-    ensures unaries { OnOk result (unaries.new.items ≡ unaries.old.items ++ map (effect_by offsets.now op cost operator.now.pre) operator.now.effects) }
+    ensures unaries { OnOk result (unaries.new.items ≡ unaries.old.items
+        ++ map (effect_by offsets.now op cost operator.now.pre) operator.now.effects) }
     ensures clear { OnOk result (AreMarked marks.new []) }
     ensures long { length marks.new ≡ length marks.old }
 {
@@ -129,9 +132,11 @@ fn add_operators(
     unaries: &mut Vec<Unary>,
 ) -> Result<(), AllocError>
     requires few { length marks.old ≤ 4194304 }
-    requires operators { IsTrue (list_all (operator_has_numbers offsets.now (length marks.old)) task.now.operators) }
+    requires operators { IsTrue
+        (list_all (operator_has_numbers offsets.now (length marks.old)) task.now.operators) }
     requires clear { AreMarked marks.old [] }
-    ensures unaries { OnOk result (unaries.new.items ≡ unaries.old.items ++ operators_by task.now kind offsets.now task.now.operators) }
+    ensures unaries { OnOk result (unaries.new.items ≡ unaries.old.items
+        ++ operators_by task.now kind offsets.now task.now.operators) }
     ensures clear { OnOk result (AreMarked marks.new []) }
     ensures long { length marks.new ≡ length marks.old }
 {
@@ -153,7 +158,8 @@ fn add_rules(
     requires few { length marks.old ≤ 4194304 }
     requires rules { IsTrue (list_all (rule_has_numbers offsets.now (length marks.old)) rules.now) }
     requires clear { AreMarked marks.old [] }
-    ensures unaries { OnOk result (unaries.new.items ≡ unaries.old.items ++ map (rule_by offsets.now) rules.now) }
+    ensures unaries { OnOk result
+        (unaries.new.items ≡ unaries.old.items ++ map (rule_by offsets.now) rules.now) }
     ensures clear { OnOk result (AreMarked marks.new []) }
     ensures long { length marks.new ≡ length marks.old }
 {
@@ -181,8 +187,10 @@ fn make_defaults(
 ) -> Result<Vec<u32>, AllocError>
     requires long { length init.now ≤ length offsets.now }
     requires few { length offsets.now < 2 ^ 32 }
-    requires small { (var : ℕ) → var < length init.now → slice_index offsets.now var + slice_index init.now var < 2 ^ 32 }
-    ensures { IfOk result (λ defaults. defaults.items ≡ defaults_by offsets.now variables.now init.now) }
+    requires small { (var : ℕ) → var < length init.now →
+        slice_index offsets.now var + slice_index init.now var < 2 ^ 32 }
+    ensures { IfOk result
+        (λ defaults. defaults.items ≡ defaults_by offsets.now variables.now init.now) }
 {
     let mut defaults = Vec::new(alloc);
     for (var, value) in init.iter().enumerate() {
@@ -222,7 +230,8 @@ fn make_unaries(
 /// The default facts of derived variables.
 fn find_defaults(alloc: Global, task: &Task, offsets: &[u32]) -> Result<Vec<u32>, AllocError>
     requires { IsOffsets task.now.variables offsets.now }
-    ensures { IfOk result (λ defaults. defaults.items ≡ defaults_of task.now) }
+    ensures { IfOk result (λ defaults.
+        defaults.items ≡ numbers_of task.now.variables (default_facts task.now)) }
 {
     let parts = task.parts();
     let defaults = make_defaults(alloc, offsets, &parts.variables, &parts.init)?;
@@ -239,7 +248,8 @@ fn find_goals(
     requires offsets { IsOffsets task.now.variables offsets.now }
     requires marks { length marks.old ≡ fact_count task.now.variables }
     requires clear { AreMarked marks.old [] }
-    ensures { IfOk result (λ goals. goals ≡ numbers_of task.now.variables (distinct_facts task.now.goal)) }
+    ensures { IfOk result (λ goals.
+        goals ≡ numbers_of task.now.variables (distinct_facts task.now.goal)) }
 {
     let parts = task.parts();
     let goals = conditions(alloc, offsets, marks, &parts.goal, &[])?;
@@ -250,11 +260,12 @@ impl Relaxed {
     /// The relaxation of a task, with operators that cost what a kind of cost says.
     ///
     /// It takes time linear in the facts and the unary operators that it makes. The second clause
-    /// says what a relaxation is good for: from a state where some goal fact isn't reached, no list of
-    /// operators leads to the goal.
+    /// says what a relaxation is good for: from a state where some goal fact isn't reached, no list
+    /// of operators leads to the goal.
     pub fn new(alloc: Global, task: &Task, kind: CostKind) -> Result<Relaxed, NoMemory>
         ensures relaxation { IfOk result (λ relaxed. IsRelaxed task.now kind relaxed) }
-        ensures dead_ends { OnOk result ((state ops last : List ℕ) → IsState task.now.variables state → IsDead task.now state →
+        ensures dead_ends { OnOk result ((state ops last : List ℕ) →
+            IsState task.now.variables state → IsDead task.now state →
             end_of task.now state ops ≡ Some last → is_goal task.now last ≡ false) }
     {
         let parts = task.parts();

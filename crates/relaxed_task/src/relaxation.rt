@@ -1,11 +1,11 @@
 // The relaxation of a task, and its facts by number.
-ghost use Rattle.std.specs.Prelude.{◌≡◌, ◌+◌, ◌≤◌, ◌<◌, List, ℕ, IsTrue, IfOk, false, slice_index};
+ghost use Rattle.std.specs.Prelude.{◌≡◌, ◌+◌, ◌≤◌, ◌<◌, List, ℕ, IsTrue, slice_index};
 ghost use Rattle.std.specs.List.{list_all};
 ghost use Rattle.sas_task.specs.WellFormed.{is_fact};
 ghost use Rattle.sas_task.specs.declared.contents.Parts.{Parts as TheParts};
 ghost use Rattle.sas_task.specs.declared.contents.CostKind.{CostKind as TheKind};
 ghost use Rattle.relaxed_task.specs.Numbers.{number_by, number_of, IsNumbered};
-ghost use Rattle.relaxed_task.specs.Unaries.{is_below, is_unary_below};
+ghost use Rattle.relaxed_task.specs.Numbers.{is_below, is_unary_below};
 ghost use Rattle.relaxed_task.specs.Relaxations.{IsSound, IsRelaxed};
 
 use crate::unary::Unary;

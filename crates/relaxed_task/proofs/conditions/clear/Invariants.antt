@@ -1,5 +1,5 @@
 use Rattle.std.proofs.Common.{◌≡◌, ℕ, length, drop, true}
-use Rattle.relaxed_task.specs.NumberRounds.{is_among}
+use Rattle.relaxed_task.specs.Numbers.{is_among}
 use Rattle.relaxed_task.specs.Making.{is_marked}
 use Rattle.relaxed_task.proofs.conditions.clear.Given as goal
 

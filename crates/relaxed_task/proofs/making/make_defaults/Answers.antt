@@ -1,5 +1,6 @@
 use Rattle.std.proofs.Common.{◌≡◌, ◌∙◌, sym, ap, true, false, refl, arith, get_or, ◌++◌, ◌∷◌, []}
-use Rattle.relaxed_task.specs.Numbers.{number_by, fact_at}
+use Rattle.relaxed_task.specs.Facts.{fact_at}
+use Rattle.relaxed_task.specs.Numbers.{number_by}
 use Rattle.relaxed_task.proofs.More.{defaults_more}
 use Rattle.relaxed_task.proofs.making.make_defaults.Goals as goal
 use Rattle.relaxed_task.proofs.making.make_defaults.Goals.{then-is_derived+in_ok-push, else-is_derived}

@@ -1,7 +1,8 @@
 use Rattle.std.proofs.Common.{◌≡◌, ◌∙◌, ap, ℕ, List}
-use Rattle.relaxed_task.specs.CostLaws.{sum_by_number}
-use Rattle.relaxed_task.specs.NumberSums.{costs_by, total as total_of}
-use Rattle.relaxed_task.specs.UnaryOperators.{distinct_facts}
+use Rattle.relaxed_task.specs.NumberLaws.{sum_by_number}
+use Rattle.relaxed_task.specs.Numbers.{costs_by}
+use Rattle.relaxed_task.specs.Relaxing.{sum_of as total_of}
+use Rattle.relaxed_task.specs.Facts.{distinct_facts}
 use Rattle.h_add.specs.Laws.{sum_infinite_if_dead}
 use Rattle.h_add.specs.Values.{value_at, Evaluator}
 use Rattle.h_add.proofs.add.Add.goal_value.Goals as goal

@@ -1,6 +1,6 @@
 use Rattle.std.proofs.Common.{◌≡◌, ◌∙◌, sym, ap, ℕ, List, not}
 use Rattle.std.specs.List.{list_any}
-use Rattle.relaxed_task.specs.DeadEnds.{dead_states_stay_dead}
+use Rattle.relaxed_task.specs.ReachLaws.{no_operators_reach_the_goal}
 use Rattle.relaxed_task.specs.Estimates.{is_finite}
 use Rattle.h_add.specs.Laws.{infinite_if_dead}
 use Rattle.h_add.specs.Values.{value_at, Evaluator}
@@ -21,4 +21,4 @@ returns-clause-exact c parts kind state is evaluated =
 pub returns-clause-safe : goal.returns-clause-safe
 returns-clause-safe c parts kind state ops last is evaluated yes_dead reached =
     let dead = (infinite_if_dead parts kind c.args.self.now.relaxed state c.args.self.now.costs is evaluated).0 (sym (looks c) ∙ yes_dead) in
-    dead_states_stay_dead parts state ops last is.well_formed evaluated.of_task dead reached
+    no_operators_reach_the_goal parts state ops last is.well_formed evaluated.of_task dead reached

@@ -1,7 +1,7 @@
 use Rattle.std.proofs.Common.{subst, ℕ, List}
 use Rattle.relaxed_task.specs.declared.unary.Unary.{Unary}
-use Rattle.relaxed_task.specs.NumberRounds.{start_facts}
-use Rattle.relaxed_task.specs.NumberSums.{add_round}
+use Rattle.h_add.specs.ByNumber.{start_facts}
+use Rattle.h_add.specs.ByNumber.{add_round}
 use Rattle.relaxed_task.specs.Estimates.{IsLeast}
 use Rattle.h_add.specs.Counts.{IsCounted, IsSeen, IsLooking}
 use Rattle.h_add.specs.Marks.{AreMarked}

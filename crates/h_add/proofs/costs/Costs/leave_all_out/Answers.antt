@@ -1,6 +1,7 @@
 use Rattle.std.proofs.Common.{◌≡◌, ◌∙◌, ◌<◌, length, map, get_or, arith, refl}
 use Rattle.std.proofs.lemmas.List.{length-map}
-use Rattle.relaxed_task.specs.Numbers.{number_by, fact_at}
+use Rattle.relaxed_task.specs.Numbers.{number_by}
+use Rattle.relaxed_task.specs.Facts.{fact_at}
 use Rattle.h_add.proofs.Growing.{below_at}
 use Rattle.h_add.proofs.Final.{out_more, map_read, out_whole, out_none}
 use Rattle.h_add.proofs.costs.Costs.leave_all_out.Goals as goal

@@ -1,6 +1,7 @@
+use Rattle.relaxed_task.specs.Numbers.{over_numbers}
 use Rattle.std.proofs.Common.{◌≡◌, ◌∙◌, sym, ap, subst, List, [], ℕ, true, false}
 use Rattle.relaxed_task.specs.declared.relaxation.Lists.{Lists}
-use Rattle.relaxed_task.specs.Kept.{kept}
+use Rattle.relaxed_task.specs.Relaxing.{kept}
 use Rattle.relaxed_task.specs.Reached.{IsDead}
 use Rattle.relaxed_task.specs.Relaxations.{IsRelaxed}
 use Rattle.sas_task.specs.declared.contents.CostKind.{CostKind}
@@ -22,12 +23,12 @@ returns-clause-answer c task of =
     let evaluated : IsEvaluated c.args.task.now c.args.self.now.kind c.args.state.now [] c.evaluate.new.self.costs =
     c.evaluate.ensures.costs c.args.task.now c.args.self.now.kind (relaxed_as _ _ _ _ own task) of in
     let alive : IsDead c.args.task.now c.args.state.now → ⊥ = λ dead. (let k : true ≡ false = sym ((c.is_dead.ensures.exact c.args.task.now c.args.self.now.kind c.args.state.now is evaluated).1 dead) ∙ c.if-is_dead.false in absurd cc) in
-    let found : AreEachOnce (ops_of (kept c.evaluate.new.self.relaxed.goals (chosen c.evaluate.new.self.relaxed.unaries c.order_best.new.self.order))) c.find.new.self.operators =
-    subst (λ (l : Lists). AreEachOnce (ops_of (kept l.goals (chosen l.unaries c.order_best.new.self.order))) c.find.new.self.operators) c.relaxed.ensures
-    (subst (λ (order : List ℕ). AreEachOnce (ops_of (kept c.relaxed.result.now.goals (chosen c.relaxed.result.now.unaries order))) c.find.new.self.operators) c.order.ensures.order c.find.ensures.operators) in
+    let found : AreEachOnce (ops_of (kept over_numbers c.evaluate.new.self.relaxed.goals (chosen c.evaluate.new.self.relaxed.unaries c.order_best.new.self.order))) c.find.new.self.operators =
+    subst (λ (l : Lists). AreEachOnce (ops_of (kept over_numbers l.goals (chosen l.unaries c.order_best.new.self.order))) c.find.new.self.operators) c.relaxed.ensures
+    (subst (λ (order : List ℕ). AreEachOnce (ops_of (kept over_numbers c.relaxed.result.now.goals (chosen c.relaxed.result.now.unaries order))) c.find.new.self.operators) c.order.ensures.order c.find.ensures.operators) in
     has_plan c.args.task.now c.args.self.now.kind c.args.state.now c.evaluate.new.self.costs c.evaluate.new.self.relaxed _ _ _ _ _ is evaluated (c.evaluate.ensures.numbers c.args.task.now c.args.self.now.kind (relaxed_as _ _ _ _ own task) of) alive
     (c.order_best.ensures.ordered c.args.task.now c.args.self.now.kind is of) c.order_best.ensures.none
-    (subst (λ (ops : List ℕ). AreEachOnce (ops_of (kept c.evaluate.new.self.relaxed.goals (chosen c.evaluate.new.self.relaxed.unaries c.order_best.new.self.order))) ops) (sym c.prefer.ensures.operators) found)
+    (subst (λ (ops : List ℕ). AreEachOnce (ops_of (kept over_numbers c.evaluate.new.self.relaxed.goals (chosen c.evaluate.new.self.relaxed.unaries c.order_best.new.self.order))) ops) (sym c.prefer.ensures.operators) found)
     (c.cost.ensures ∙ (ap (λ (ops : List ℕ). cost_of c.args.task.now c.self.inside.kind ops) c.operators.ensures ∙ ap (λ (k : CostKind). cost_of c.args.task.now k c.prefer.new.self.operators) kind))
     (c.prefer.ensures.preferred ∙ ap (λ (ops : List ℕ). filter (is_applicable c.args.task.now c.args.state.now) ops) (sym c.prefer.ensures.operators))
 

@@ -1,8 +1,8 @@
 use Rattle.std.proofs.Common.{◌≡◌, ◌||◌, ℕ, true, length, take}
 use Rattle.std.specs.List.{list_all}
 use Rattle.relaxed_task.specs.Numbers.{numbers_by}
-use Rattle.relaxed_task.specs.NumberRounds.{is_among}
-use Rattle.relaxed_task.specs.Unaries.{is_below}
+use Rattle.relaxed_task.specs.Numbers.{is_among}
+use Rattle.relaxed_task.specs.Numbers.{is_below}
 use Rattle.h_ff.specs.Best.{is_given}
 use Rattle.h_ff.specs.Passes.{IsBegun}
 use Rattle.h_ff.proofs.pass.Pass.give_state.Given as goal

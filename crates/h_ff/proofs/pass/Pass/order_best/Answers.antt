@@ -1,5 +1,5 @@
 use Rattle.std.proofs.Common.{◌∙◌, sym}
-use Rattle.relaxed_task.specs.NumberRounds.{start_facts}
+use Rattle.h_add.specs.ByNumber.{start_facts}
 use Rattle.h_ff.proofs.Ordering.{relaxed_as}
 use Rattle.h_ff.proofs.pass.Pass.order_best.Goals as goal
 

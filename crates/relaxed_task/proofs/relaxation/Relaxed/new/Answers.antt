@@ -1,7 +1,7 @@
 use Rattle.std.proofs.Common.{rules}
 use Rattle.relaxed_task.specs.Relaxations.{IsRelaxed}
-use Rattle.relaxed_task.specs.SoundLaws.{relaxed_sound}
-use Rattle.relaxed_task.specs.DeadEnds.{dead_states_stay_dead}
+use Rattle.relaxed_task.proofs.Numbering.{relaxed_sound}
+use Rattle.relaxed_task.specs.ReachLaws.{no_operators_reach_the_goal}
 use Rattle.relaxed_task.proofs.relaxation.Relaxed.new.Goals as goal
 
 pub from_lists-requires : goal.from_lists-requires
@@ -10,4 +10,4 @@ from_lists-requires c =
     relaxed_sound c.args.task.now c.args.kind _ is
 
 pub returns-clause-dead_ends : goal.returns-clause-dead_ends
-returns-clause-dead_ends c = λ state ops last. dead_states_stay_dead c.args.task.now state ops last c.parts-parts.ensures.well_formed
+returns-clause-dead_ends c = λ state ops last. no_operators_reach_the_goal c.args.task.now state ops last c.parts-parts.ensures.well_formed
