@@ -1,12 +1,12 @@
 -- What one more candidate makes of a core in its turn.
-use Rattle.std.proofs.Common.{◌≡◌, ◌≢◌, ℕ, ◌<◌, ◌≤◌, Bool, true, false, if◌then◌else◌, List, [], ◌∷◌, ◌++◌, length, map, Option, Some, None, refl, sym, ap, ◌∙◌, subst, arith}
+use Rattle.std.proofs.Common.{◌≡◌, ℕ, ◌<◌, ◌≤◌, Bool, true, false, List, [], ◌∷◌, ◌++◌, length, map, Option, Some, None, refl, sym, ap, ◌∙◌, arith}
 use Rattle.std.proofs.lemmas.Bool.{cond-true, cond-false}
 use Rattle.std.proofs.lemmas.List.{map-append, append-nil, length-map}
 use Rattle.sas_task.specs.declared.plans.Kept.{Kept}
 use Rattle.driver_core.specs.declared.events.Event.{Event}
 use Rattle.driver_core.specs.declared.settings.Setting.{Setting}
 use Rattle.driver_core.specs.Settings.{most_plans}
-use Rattle.driver_core.specs.Keeping.{kept_costs, is_kept, is_below, bound_of}
+use Rattle.driver_core.specs.Keeping.{kept_costs, is_kept, is_below}
 use Rattle.driver_core.specs.Legal.{IsAllowed}
 use Rattle.driver_core.specs.Laws.{kept_costs-push_plan, kept_costs-push_other, kept_costs-few, IsOn-offer}
 use Rattle.driver_core.specs.Standing.{StandsFor}

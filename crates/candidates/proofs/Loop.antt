@@ -1,9 +1,8 @@
 -- A child's files are judged one after another.
 use Rattle.std.specs.Prelude.{option_map}
-use Rattle.std.proofs.Common.{◌≡◌, ◌≢◌, ℕ, zero, suc, ◌+◌, ◌<◌, ◌≤◌, Bool, true, false, List, [], ◌∷◌, ◌++◌, length, map, Option, Some, None, Result, Ok, Err, refl, sym, ap, ◌∙◌, subst, arith, append_assoc, append-nil, length-append}
+use Rattle.std.proofs.Common.{◌≡◌, ◌≢◌, ℕ, zero, suc, ◌+◌, ◌≤◌, Bool, true, false, List, [], ◌∷◌, ◌++◌, length, map, Option, Some, None, Result, Ok, Err, refl, sym, ap, ◌∙◌, subst, arith, append_assoc, append-nil, length-append}
 use Rattle.std.specs.FinMap.{get}
 use Rattle.lama_host.specs.Folder.{Told, Files, WhereTold, IsUntouched, last_of}
-use Rattle.lama_host.specs.StepLaws.{told_again}
 use Rattle.lama_num.specs.Names.{part_name, child_name}
 use Rattle.lama_num.specs.NameLaws.{child≢base, child≢part, child≢numbered, child_numbered≢base, child_numbered≢part, child_numbered≢numbered}
 use Rattle.sas_task.specs.declared.contents.Parts.{Parts}
@@ -20,7 +19,7 @@ use Rattle.driver_core.specs.Running.{is_over_after}
 use Rattle.driver_core.specs.Turns.{Turn}
 use Rattle.candidates.specs.declared.reading.ReadError.{ReadError}
 use Rattle.candidates.specs.declared.reading.ReadError.TheVariants.{Failed}
-use Rattle.candidates.specs.ChildFiles.{ChildFile, file_of, file_at, child_files}
+use Rattle.candidates.specs.ChildFiles.{ChildFile, file_of, child_files}
 use Rattle.candidates.specs.Collecting.{IsInTurn, KeepsBelow, Standing, TakesIn}
 use Rattle.candidates.specs.Judging.{Judged, judged_as, judged_of, offer_of, plans_of, judged_in, AreAllOrFirst}
 use Rattle.candidates.specs.Laws.{keeping_writes}

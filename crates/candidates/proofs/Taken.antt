@@ -1,6 +1,6 @@
 -- What is taken in of a turn's candidates: none, one, and one after the other.
 use Rattle.std.specs.Prelude.{OnOk, OnErr, is_err}
-use Rattle.std.proofs.Common.{◌≡◌, ◌≢◌, ℕ, ◌+◌, ◌-◌, ◌<◌, ◌≤◌, Bool, true, false, List, [], ◌∷◌, ◌++◌, length, map, Option, Some, None, Result, Ok, Err, slice_get, refl, sym, ap, ◌∙◌, subst, arith, inl, inr, append_assoc, append-nil, length-append}
+use Rattle.std.proofs.Common.{◌≡◌, ◌≢◌, ℕ, ◌+◌, ◌-◌, Bool, true, false, List, [], ◌∷◌, ◌++◌, length, map, Option, Some, None, Result, Ok, Err, refl, sym, ap, ◌∙◌, subst, arith, inl, inr, append_assoc, append-nil, length-append}
 use Rattle.std.proofs.lemmas.Bool.{cases_lt}
 use Rattle.std.proofs.lemmas.List.{map-append}
 use Rattle.lama_host.specs.Folder.{Told, Files, Changes, IsUntouched, last_of}
@@ -15,18 +15,15 @@ use Rattle.plan_check.specs.declared.verdicts.Verdict.TheVariants.{Good, Bad}
 use Rattle.plan_text.specs.PlanText.{plan_text}
 use Rattle.plan_manager.specs.Keeping.{PlacesPlan}
 use Rattle.driver_core.specs.declared.events.Event.{Event}
-use Rattle.driver_core.specs.declared.settings.Setting.{Setting}
 use Rattle.driver_core.specs.Keeping.{bound_of, is_below}
-use Rattle.driver_core.specs.States.{CoreState}
 use Rattle.driver_core.specs.Turns.{Turn, offers}
-use Rattle.candidates.specs.declared.offers.Candidate.{Candidate}
 use Rattle.candidates.specs.declared.offers.Found.TheVariants.{Kept as IsKept, Dropped}
 use Rattle.candidates.specs.declared.reading.ReadError.{ReadError}
 use Rattle.candidates.specs.declared.reading.ReadError.TheVariants.{Failed, NoMemory}
 use Rattle.candidates.specs.Collecting.{IsInTurn, Standing, TakesIn, finished}
-use Rattle.candidates.specs.Judging.{Judged, judged_as, real_cost, offer_of, plans_of, candidates_of, candidate_of}
-use Rattle.candidates.specs.Laws.{plans_of-append, candidates_of-none, candidates_of-one, candidates_of-append, only_one, slice_get-behind, kept_then, places_none}
-use Rattle.candidates.specs.Plans.{ArePlans, PlacesPlans, PlacesLast, PlacesKept}
+use Rattle.candidates.specs.Judging.{Judged, judged_as, real_cost, offer_of, plans_of, candidates_of}
+use Rattle.candidates.specs.Laws.{plans_of-append, candidates_of-none, candidates_of-one, candidates_of-append, only_one, slice_get-behind, kept_then}
+use Rattle.candidates.specs.Plans.{ArePlans, PlacesLast, PlacesKept}
 
 -- nothing
 

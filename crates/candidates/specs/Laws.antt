@@ -1,5 +1,5 @@
 -- Lists of candidates put together, and what keeping plans leaves in a folder.
-use Rattle.std.proofs.Common.{◌≡◌, ◌≢◌, ℕ, zero, suc, ◌+◌, ◌-◌, ◌<◌, ◌≤◌, Bool, true, false, List, [], ◌∷◌, ◌++◌, length, Option, Some, None, Result, Ok, Err, slice_get, refl, sym, ap, ◌∙◌, subst, arith, inl, inr, length-append, append_assoc, append-nil, add-zero}
+use Rattle.std.proofs.Common.{◌≡◌, ◌≢◌, ℕ, zero, suc, ◌+◌, ◌-◌, ◌<◌, ◌≤◌, Bool, true, false, List, [], ◌∷◌, ◌++◌, length, Option, Some, None, Result, Ok, slice_get, refl, sym, ap, ◌∙◌, subst, arith, inl, inr, length-append, append_assoc, append-nil, add-zero}
 use Rattle.std.specs.List.{filter_map, range_with_len}
 use Rattle.std.specs.FinMap.{get}
 use Rattle.std.proofs.lemmas.Bool.{cases_lt}
@@ -13,12 +13,10 @@ use Rattle.sas_task.specs.declared.plans.Kept.{Kept}
 use Rattle.plan_check.specs.declared.verdicts.Verdict.{Verdict}
 use Rattle.plan_check.specs.declared.verdicts.Verdict.TheVariants.{Good, Bad}
 use Rattle.plan_text.specs.PlanText.{plan_text}
-use Rattle.plan_manager.specs.Family.{family_name}
 use Rattle.plan_manager.specs.FamilyLaws.{family_same, family≢part}
-use Rattle.plan_manager.specs.Keeping.{plan_number, plan_file, IsPlaced, PlacesPlan}
+use Rattle.plan_manager.specs.Keeping.{plan_number, plan_file, IsPlaced}
 use Rattle.plan_manager.specs.Laws.{placing_places}
 use Rattle.driver_core.specs.Turns.{Turn}
-use Rattle.candidates.specs.declared.offers.Candidate.{Candidate}
 use Rattle.candidates.specs.declared.reading.ReadError.{ReadError}
 use Rattle.candidates.specs.Judging.{Judged, judged_as, kept_of, plans_of, candidate_of, candidates_of, place_of}
 use Rattle.candidates.specs.Plans.{AreFew, PlacesPlans, PlacesLast, PlacesKept, WritesPlans}
@@ -60,9 +58,6 @@ places-of_kept turn count (judged ∷ more) = first_place judged.verdict (λ n. 
     first_place (Bad fault) rest = let same : count + 0 ≡ count = omega arith in ap (λ n. filter_map place_of (candidates_of turn n more)) same ∙ rest count
 
 -- the plans' texts in the folder
-
-pub places_none : (base : List ℕ) (many : Bool) (parts : Parts) (before : ℕ) (files : Files) → PlacesPlans base many parts before [] files []
-places_none base many parts before files = refl
 
 pub places_then : (base : List ℕ) (many : Bool) (parts : Parts) (before : ℕ) (first second : List Kept) (files : Files) (steps more : List Files)
     → PlacesPlans base many parts before first files steps → PlacesPlans base many parts (before + length first) second (last_of files steps) more → PlacesPlans base many parts before (first ++ second) files (steps ++ more)

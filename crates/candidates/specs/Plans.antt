@@ -1,5 +1,5 @@
 -- Plans of a task, and their texts in a folder.
-use Rattle.std.specs.Prelude.{◌≡◌, ◌≢◌, ℕ, ◌+◌, ◌<◌, ◌≤◌, ◌^◌, List, [], ◌∷◌, ◌++◌, length, Bool, true, false, slice_get, slice_index, Option, Some, Result, Ok, Err, ◌⊎◌}
+use Rattle.std.specs.Prelude.{◌≡◌, ◌≢◌, ℕ, ◌+◌, ◌<◌, ◌≤◌, List, [], ◌∷◌, ◌++◌, length, Bool, true, false, slice_get, Option, Some, Result, Ok, Err, ◌⊎◌}
 use Rattle.std.specs.FinMap.{get}
 use Rattle.lama_host.specs.Folder.{Files, last_of}
 use Rattle.lama_num.specs.Names.{part_name}

@@ -1,5 +1,4 @@
-use Rattle.std.proofs.Common.{◌≡◌, ◌∙◌, ◌+◌, [], ◌∷◌, ◌++◌, Some, None, Result, Ok, Err, map, refl, sym, ap, subst, arith, rules}
-use Rattle.std.specs.Prelude.{option_map}
+use Rattle.std.proofs.Common.{◌≡◌, ◌∙◌, ◌+◌, [], ◌∷◌, ◌++◌, None, map, refl, sym, ap, subst, arith, rules}
 use Rattle.std.specs.FinMap.{get}
 use Rattle.lama_host.specs.StepLaws.{stays_same, stays_then, stays_untouched}
 use Rattle.plan_check.specs.Verdicts.{verdict_of}
@@ -8,7 +7,7 @@ use Rattle.driver_core.specs.Turns.{turn_of}
 use Rattle.candidates.specs.Collecting.{KeepsBelow, standing}
 use Rattle.candidates.specs.Judging.{judged_as, offer_of}
 use Rattle.candidates.proofs.Gathered.{room_for_one, none_yet}
-use Rattle.candidates.proofs.Loop.{Collected, IsVerdictOn, at_first, in_turn, held_first, still_collected, passed_over, verdict_on, nothing_there, took, ends_over, ends_missing, ends_last, ends_early, ends_unread}
+use Rattle.candidates.proofs.Loop.{IsVerdictOn, at_first, in_turn, held_first, still_collected, passed_over, verdict_on, nothing_there, took, ends_over, ends_missing, ends_last, ends_early, ends_unread}
 use Rattle.candidates.proofs.collecting.collect.Goals as goal
 
 pub loop-number-init : goal.loop-number-init

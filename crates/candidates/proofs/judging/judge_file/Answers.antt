@@ -1,4 +1,4 @@
-use Rattle.std.proofs.Common.{◌≡◌, ◌∙◌, sym, subst}
+use Rattle.std.proofs.Common.{sym, subst}
 use Rattle.std.specs.FinMap.{get}
 use Rattle.candidates.specs.Judging.{HeedsBound}
 use Rattle.candidates.proofs.Verdicts.{fair_verdict, sound_verdict, too_long_told}

@@ -1,4 +1,4 @@
-use Rattle.std.proofs.Common.{◌≡◌, ◌+◌, ◌∙◌, ap, sym, subst, length, List, [], ◌∷◌, ◌++◌, Some, Ok, Err, arith, rules}
+use Rattle.std.proofs.Common.{◌≡◌, ◌+◌, ◌∙◌, ap, sym, subst, length, List, [], ◌∷◌, ◌++◌, Some, Ok, Err, rules}
 use Rattle.lama_host.specs.StepLaws.{stays_same, stays_kept}
 use Rattle.driver_core.specs.Turns.{turn_of, offers}
 use Rattle.candidates.specs.Collecting.{IsInTurn}

@@ -1,4 +1,4 @@
-use Rattle.std.proofs.Common.{◌≡◌, Err, refl, sym, subst}
+use Rattle.std.proofs.Common.{Err, refl, sym, subst}
 use Rattle.lama_host.specs.StepLaws.{stays_same}
 use Rattle.driver_core.specs.Turns.{turn_of}
 use Rattle.candidates.specs.declared.reading.ReadError.TheVariants.{NoMemory}
