@@ -46,7 +46,9 @@ fn takes_two(alloc: Global, task: &Task) -> Result<bool, NoMemory> {
 fn two_states_are_taken_and_known(rt: HostRuntime) -> Result<(), Fail> {
     let alloc = rt.alloc();
     for variables in [1, 7, 60] {
-        let task = check(wide(alloc, variables)?)?;
+        let Ok(task) = check(wide(alloc, variables)?) else {
+            return Err(Fail::from("refused"));
+        };
         assert!(rt; takes_two(alloc, &task)?, "{variables}");
     }
     Ok(())
