@@ -1,1 +1,6 @@
-pub mod RoundLaws
+pub mod Hearing
+pub mod Making
+pub mod Resetting
+pub mod Rounds
+pub mod Sound
+pub mod Upwards

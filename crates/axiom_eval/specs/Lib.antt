@@ -1,3 +1,8 @@
 pub mod Axioms
+pub mod Building
+pub mod Defaults
+pub mod Layers
+pub mod Rules
+pub mod Settling
 pub mod Within
 pub mod Written

@@ -1,15 +1,11 @@
--- What one more effect writes, and one more rule.
+-- What one more effect writes.
 use Rattle.std.proofs.Common.{◌≡◌, ◌≢◌, ◌∙◌, sym, ap, refl, ℕ, zero, suc, ◌+◌, ◌<◌, List, [], ◌∷◌, ◌++◌, length, map, Bool, true, false, cond, nat_eq, ◌&&◌, arith, slice_set, get_or, take}
 use Rattle.std.specs.List.{enumerate_from}
 use Rattle.std.proofs.lemmas.Bool.Decides.{nat_tests}
 use Rattle.std.proofs.lemmas.List.{take_more, append-nil, map-append}
 use Rattle.std.proofs.lemmas.List.Elements.{filter-append}
 use Rattle.sas_task.specs.declared.contents.Effect.{Effect}
-use Rattle.sas_task.specs.declared.contents.Rule.{Rule}
-use Rattle.sas_task.specs.declared.contents.Variable.{Variable}
-use Rattle.lama_num.specs.Lists.{both}
-use Rattle.sas_task.specs.WellFormed.{layer_of}
-use Rattle.sas_task.specs.States.{given, last_or, fires, written, rules_of, is_layer, all_hold, as_effect}
+use Rattle.sas_task.specs.States.{given, last_or, fires, written}
 
 last_or-append : (value : ℕ) (xs : List ℕ) (x : ℕ) → last_or value (xs ++ x ∷ []) ≡ x
 last_or-append value [] x = refl
@@ -91,33 +87,3 @@ pub written_still : (state out : List ℕ) (effects : List Effect) (i : ℕ) (e 
     fires state e ≡ false → out ≡ written state (take (i + 1) effects)
 written_still state out effects i e lt is so still =
     rw (take_more effects i e lt, ← is) (so ∙ sym (from_still state (take i effects) e 0 state still))
-
--- one more rule of some, which is of the layer or not
-rules_more : (variables : List Variable) (layer : ℕ) (rules : List Rule) (i : ℕ) (r : Rule) → i < length rules → r ≡ get_or rules i r →
-    rules_of variables layer (take (i + 1) rules) ≡ rules_of variables layer (take i rules) ++ rules_of variables layer (r ∷ [])
-rules_more variables layer rules i r lt is = rw (take_more rules i r lt, ← is) (simp (filter-append, map-append))
-
-one_rule : (variables : List Variable) (layer : ℕ) (r : Rule) (b : Bool) → is_layer (layer_of variables r.head.var) layer ≡ b → rules_of variables layer (r ∷ []) ≡ cond b (as_effect r ∷ []) []
-one_rule variables layer r true is = rw is refl
-one_rule variables layer r false is = rw is refl
-
-pub round_gives : (variables : List Variable) (layer : ℕ) (old out : List ℕ) (rules : List Rule) (i : ℕ) (r : Rule) → i < length rules → r ≡ get_or rules i r →
-    out ≡ written old (rules_of variables layer (take i rules)) → (is_layer (layer_of variables r.head.var) layer && all_hold old r.conds) ≡ true →
-    slice_set out r.head.var r.head.val ≡ written old (rules_of variables layer (take (i + 1) rules))
-round_gives variables layer old out rules i r lt is so holds_so =
-    let parts = both (is_layer (layer_of variables r.head.var) layer) (all_hold old r.conds) holds_so in
-    let more = rules_more variables layer rules i r lt is ∙ ap (λ es. rules_of variables layer (take i rules) ++ es) (one_rule variables layer r true parts.0) in
-    rw (more, so) (sym (from_at old (rules_of variables layer (take i rules)) (as_effect r) 0 r.head.var old parts.1 (omega arith)))
-
-pub round_still : (variables : List Variable) (layer : ℕ) (old out : List ℕ) (rules : List Rule) (i : ℕ) (r : Rule) → i < length rules → r ≡ get_or rules i r →
-    out ≡ written old (rules_of variables layer (take i rules)) → (is_layer (layer_of variables r.head.var) layer && all_hold old r.conds) ≡ false →
-    out ≡ written old (rules_of variables layer (take (i + 1) rules))
-round_still variables layer old out rules i r lt is so not_so = still (is_layer (layer_of variables r.head.var) layer) refl not_so
-  where
-    still : (b : Bool) → is_layer (layer_of variables r.head.var) layer ≡ b → (b && all_hold old r.conds) ≡ false → out ≡ written old (rules_of variables layer (take (i + 1) rules))
-    still true here not_so =
-        let more = rules_more variables layer rules i r lt is ∙ ap (λ es. rules_of variables layer (take i rules) ++ es) (one_rule variables layer r true here) in
-        rw more (so ∙ sym (from_still old (rules_of variables layer (take i rules)) (as_effect r) 0 old not_so))
-    still false here not_so =
-        let more = rules_more variables layer rules i r lt is ∙ ap (λ es. rules_of variables layer (take i rules) ++ es) (one_rule variables layer r false here) in
-        rw (more, append-nil (rules_of variables layer (take i rules))) so

@@ -3,8 +3,10 @@ ghost use Rattle.std.specs.Prelude.{◌≡◌, IfOk, length};
 ghost use Rattle.sas_task.specs.States.{settled};
 ghost use Rattle.axiom_eval.specs.Axioms.{IsFor};
 
-use crate::settling::{reset_derived, settle_layers, top_of};
-use lama_num::NoMemory;
+use crate::building::{derived_of, rules_of};
+use crate::settling::{reset_derived, settle_layers};
+use crate::tables::{Derived, Rules};
+use lama_num::{NoMemory, Seq};
 use sas_task::Task;
 use std::alloc::Global;
 use std::marker::Model;
@@ -14,17 +16,19 @@ use std::marker::Model;
 /// The task is given again at each call; it is the one for which the value was made.
 #[derive(Debug, Drop)]
 pub struct Axioms {
-    layers: u32,
-    before: Vec<u32>,
+    derived: Seq<Derived>,
+    rules: Rules,
+    /// Variables that were given and not looked at yet; none between two calls.
+    waiting: Vec<u32>,
 }
 
 impl Model for Axioms {
-    ghost use Rattle.std.specs.Prelude.{length};
+    ghost use Rattle.std.specs.Prelude.{vec_capacity};
     ghost use Rattle.axiom_eval.specs.Axioms.{Tables};
 
     ghost Value = { Tables };
 
-    ghost view = { λ a. record { layers = a.layers; room = length a.before.items } };
+    ghost view = { λ a. record { derived = a.derived; rules = a.rules; waiting = a.waiting.items; room = vec_capacity a.waiting } };
 }
 
 impl Axioms {
@@ -33,9 +37,14 @@ impl Axioms {
         ensures { IfOk result (λ axioms. IsFor axioms task.now) }
     {
         let parts = task.parts();
-        let before = vec![in alloc; 0; parts.variables.len()]?;
-        let layers = top_of(&parts.variables) as u32;
-        Ok(Axioms { layers, before })
+        let derived = Seq::from(derived_of(alloc, parts)?);
+        let rules = rules_of(alloc, parts)?;
+        let waiting = Vec::with_capacity(alloc, parts.variables.len())?;
+        Ok(Axioms {
+            derived,
+            rules,
+            waiting,
+        })
     }
 
     /// Settles values, one for each variable: derived variables get their defaults and then what the
@@ -46,11 +55,11 @@ impl Axioms {
         ensures values { values.new ≡ settled task.now values.old }
         ensures same_task { IsFor self.new task.now }
     {
-        if self.layers == 0 {
+        if self.derived.is_empty() {
             return;
         }
         let parts = task.parts();
-        reset_derived(parts, values);
-        settle_layers(parts, self.layers, values, self.before.as_mut_slice());
+        reset_derived(parts, &self.derived, values);
+        settle_layers(parts, &self.rules, values, &mut self.waiting);
     }
 }

@@ -5,7 +5,10 @@
 #![tactic(auto)]
 
 mod axioms;
+mod building;
+mod layers;
 mod settling;
+mod tables;
 
 pub use axioms::Axioms;
 pub use sas_task::all_hold;

@@ -1,14 +1,13 @@
-use Rattle.std.proofs.Common.{◌≡◌, arith, length}
-use Rattle.sas_task.specs.States.{top_of}
-use Rattle.axiom_eval.proofs.RoundLaws.{settled_none, rules_within}
+use Rattle.std.proofs.Common.{◌≡◌, ◌∙◌, [], ap, sym}
+use Rattle.axiom_eval.specs.Axioms.{Tables}
+use Rattle.axiom_eval.specs.Defaults.{is_listed}
+use Rattle.axiom_eval.proofs.Upwards.{settled_none}
+use Rattle.axiom_eval.specs.declared.tables.Derived.{Derived}
+use Rattle.std.specs.Prelude.{List}
 use Rattle.axiom_eval.proofs.axioms.Axioms.settle.Goals as goal
 
-pub returns-then-self-eq0-clause-values : goal.returns-then-self-eq0-clause-values
-returns-then-self-eq0-clause-values c =
-    let none : top_of c.args.task.now.variables ≡ 0 = cc in
-    settled_none c.args.task.now c.args.values.now none
-
-pub settle_layers-requires-clause-facts : goal.settle_layers-requires-clause-facts
-settle_layers-requires-clause-facts c =
-    let long : length c.reset_derived.new.values ≡ length c.args.task.now.variables = omega arith in
-    rw c.parts-parts.ensures.parts (rules_within c.args.task.now _ c.parts-parts.ensures.well_formed long)
+pub returns-then-is_empty-clause-values : goal.returns-then-is_empty-clause-values
+returns-then-is_empty-clause-values c =
+    let none : c.self.inside.derived ≡ [] = c.is_empty.ensures.0 c.if-is_empty.true in
+    let listed : c.args.self.now.derived ≡ [] = ap (λ (t : Tables). t.derived) (sym c.self.view_is) ∙ none in
+    settled_none c.args.task.now c.args.values.now (λ var. sym (c.requires.same_task.derived.those var) ∙ ap (λ (ds : List Derived). is_listed ds var) listed)
