@@ -1,9 +1,9 @@
 // Children: each is a shell that sets its limits and then becomes the program.
-ghost use Rattle.std.specs.Prelude.{◌≡◌, ◌++◌, IfOk, codes, map, string_bytes};
-ghost use Rattle.std.specs.Process.{command_program, command_args, exit_code};
-ghost use Rattle.host_real.specs.Children.{limit_text, script_text, shell_words, end_of};
+ghost use Rattle.std.specs.Prelude.{◌≡◌, ◌++◌, IfOk, IsSomeAnd, codes, map, string_bytes};
+ghost use Rattle.std.specs.Process.{command_program, command_args, child_status, exit_code};
+ghost use Rattle.host_real.specs.Children.{soft_text, hard_text, time_text, memory_text, script_text, shell_words, end_of};
 
-use crate::{BECOME, KIB, SECONDS};
+use crate::{BECOME, TAKE_INPUT};
 use lama_host::{ChildEnd, Limits};
 use std::alloc::{AllocError, Global};
 use std::io;
@@ -18,12 +18,40 @@ pub struct Program<'a> {
     pub limits: Limits,
 }
 
-/// The line of the shell that sets one limit.
-fn limit(alloc: Global, set: &str, most: Option<u32>) -> Result<String, AllocError>
-    ensures { IfOk result (λ text. string_bytes text ≡ limit_text set.now most) }
+/// What the shell does so that the program is told to stop after so many seconds of processor time.
+fn soft_limit(alloc: Global, seconds: u32) -> Result<String, AllocError>
+    ensures { IfOk result (λ text. string_bytes text ≡ soft_text seconds) }
 {
-    match most {
-        Some(most) => format!(in alloc; "{set}{most} || exit 127; "),
+    format!(in alloc; "ulimit -S -t {seconds} || exit 127; ")
+}
+
+/// What the shell does so that it is stopped after so many.
+fn hard_limit(alloc: Global, seconds: u64) -> Result<String, AllocError>
+    ensures { IfOk result (λ text. string_bytes text ≡ hard_text seconds) }
+{
+    format!(in alloc; "ulimit -H -t {seconds} || exit 127; ")
+}
+
+/// What the shell does to limit the processor time. The soft limit comes first, since it may not lie
+/// above the hard one.
+fn time_limit(alloc: Global, seconds: Option<u32>) -> Result<String, AllocError>
+    ensures { IfOk result (λ text. string_bytes text ≡ time_text seconds) }
+{
+    let Some(soft) = seconds else {
+        return Ok(String::new(alloc));
+    };
+    let hard = hard_limit(alloc, u64::from(soft) + 1)?;
+    let mut text = soft_limit(alloc, soft)?;
+    text.push_str(hard.as_str())?;
+    Ok(text)
+}
+
+/// What the shell does to limit the memory.
+fn memory_limit(alloc: Global, kib: Option<u32>) -> Result<String, AllocError>
+    ensures { IfOk result (λ text. string_bytes text ≡ memory_text kib) }
+{
+    match kib {
+        Some(kib) => format!(in alloc; "ulimit -v {kib} || exit 127; "),
         None => Ok(String::new(alloc)),
     }
 }
@@ -32,8 +60,9 @@ fn limit(alloc: Global, set: &str, most: Option<u32>) -> Result<String, AllocErr
 fn script(alloc: Global, limits: Limits) -> Result<String, AllocError>
     ensures { IfOk result (λ text. string_bytes text ≡ script_text limits) }
 {
-    let mut text = limit(alloc, SECONDS, limits.seconds)?;
-    text.push_str(limit(alloc, KIB, limits.kib)?.as_str())?;
+    let mut text = String::from_str(alloc, TAKE_INPUT)?;
+    text.push_str(time_limit(alloc, limits.seconds)?.as_str())?;
+    text.push_str(memory_limit(alloc, limits.kib)?.as_str())?;
     text.push_str(BECOME)?;
     Ok(text)
 }
@@ -106,7 +135,9 @@ fn end(status: ExitStatus) -> ChildEnd
     }
 }
 
-/// Waits for a child.
-pub fn ended<P: OpenProcess + Drop>(mut child: Child<P>) -> io::Result<ChildEnd> {
+/// Waits for a child, and tells its end.
+pub fn ended<P: OpenProcess + Drop>(child: &mut Child<P>) -> io::Result<ChildEnd>
+    ensures { IfOk result (λ told. IsSomeAnd (child_status child.new) (λ status. told ≡ end_of (exit_code status))) }
+{
     Ok(end(child.wait()?))
 }

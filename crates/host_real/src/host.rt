@@ -4,20 +4,23 @@ ghost use Rattle.host_real.specs.Slots.{slots};
 
 use crate::child::{Program, ended};
 use crate::faults::counted;
-use crate::files::{append_to, create_empty, read_at, remove_name};
+use crate::files::{append_to, create_empty, read_at, remove_name, rename_over};
 use crate::running::{Running, start_in, take};
 use lama_host::{ChildEnd, Failed, Folder, Host, Limits, Piece};
 use std::alloc::Global;
+use std::io;
 use std::io::ErrorKind;
 use std::process::Processes;
 use std::rt::Files;
-use std::{fs, io};
 
 /// The current folder, and children of this process.
 ///
-/// A child is the shell, which sets its limits and then becomes the program; it ends with status 127
-/// where a limit can't be set or there is no such program. `start` returns once the child has read its
-/// input or can no longer read it.
+/// A name counts as a file only where it is a file of bytes: a link, a FIFO or a directory that a
+/// child left is missing to a read, and makes way for a new file.
+///
+/// A child is the shell, which takes its input into a nameless file, sets its limits and then becomes
+/// the program; it ends with status 127 where one of these can't be done or there is no such program.
+/// `start` returns once the shell has taken the input.
 #[derive(Drop)]
 pub struct RealHost<'a, R: Files + Processes> {
     alloc: Global,
@@ -61,7 +64,7 @@ impl<'a, R: Files + Processes> Folder for RealHost<'a, R> {
     }
 
     fn rename(&mut self, old: &str, new: &str) -> Result<(), Failed> {
-        let answer = fs::rename(self.rt, old, new);
+        let answer = rename_over(self.rt, old, new);
         counted(&mut self.faults, answer)
     }
 
@@ -90,7 +93,7 @@ impl<'a, R: Files + Processes> Host for RealHost<'a, R> {
 
     fn wait(&mut self, slot: u32) -> Result<ChildEnd, Failed> {
         let answer = match take(&mut self.running, slot) {
-            Some(child) => ended(child),
+            Some(mut child) => ended(&mut child),
             None => Err(io::Error::from(ErrorKind::NotFound)),
         };
         counted(&mut self.faults, answer)
