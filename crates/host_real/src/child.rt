@@ -1,5 +1,6 @@
 // Children: each is a shell that sets its limits and then becomes the program.
-ghost use Rattle.std.specs.Prelude.{◌≡◌, ◌++◌, IfOk, IsSomeAnd, codes, map, string_bytes};
+ghost use Rattle.std.specs.Prelude.{◌≡◌, ◌++◌, IfOk, IsSomeAnd, true, codes, map, string_bytes};
+ghost use Rattle.std.specs.Io.KnownBytes.{Appends};
 ghost use Rattle.std.specs.Process.{command_program, command_args, child_status, exit_code};
 ghost use Rattle.host_real.specs.Children.{soft_text, hard_text, time_text, memory_text, script_text, shell_words, end_of};
 
@@ -91,30 +92,37 @@ fn command(alloc: Global, words: &[String], limits: Limits) -> Result<Command, A
     Ok(command)
 }
 
-/// Writes a child's input. A child that doesn't read it to the end is no fault.
-fn feed<W: Write>(pipe: &mut W, input: &[u8]) -> io::Result<()> {
+/// Writes a child's input, and answers whether it took all. A child that doesn't is no fault.
+fn feed<W: Write>(pipe: &mut W, input: &[u8]) -> io::Result<bool>
+    ensures { IfOk result (λ all. all ≡ true → Appends (W.contents pipe.old) (W.contents pipe.new) input.now) }
+{
     match pipe.write_all(input) {
-        Err(e) if e.kind() == ErrorKind::BrokenPipe => Ok(()),
-        answer => answer,
+        Ok(()) => Ok(true),
+        Err(e) if e.kind() == ErrorKind::BrokenPipe => Ok(false),
+        Err(e) => Err(e),
     }
 }
 
 fn feed_child<P: OpenProcess>(child: &mut Child<P>, input: &[u8]) -> io::Result<()> {
     match child.stdin.take() {
-        Some(mut pipe) => feed(&mut pipe, input),
+        Some(mut pipe) => {
+            feed(&mut pipe, input)?;
+            Ok(())
+        }
         None => Err(io::Error::from(ErrorKind::NotFound)),
     }
 }
 
-/// Starts a child and gives it its input, whose end it then sees. Its standard output is discarded.
-///
-/// Where the input can't be written, the child is killed.
-pub fn launch<R: Processes>(
-    alloc: Global,
+/// Starts the shell with the stated line and words, and gives it the input, whose end it then sees.
+/// Its standard output is discarded. Where the input can't be written, the child is killed.
+fn begin<R: Processes>(
     rt: &R,
+    mut command: Command,
     program: &Program,
-) -> io::Result<Child<R::Started>> {
-    let mut command = command(alloc, program.words, program.limits)?;
+) -> io::Result<Child<R::Started>>
+    requires shell { command_program command ≡ codes "/bin/sh" }
+    requires words { command_args command ≡ shell_words program.now.limits ++ map string_bytes program.now.words.now }
+{
     command.stdin(Stdio::piped());
     command.stdout(Stdio::null());
     let mut child = command.spawn(rt)?;
@@ -124,6 +132,16 @@ pub fn launch<R: Processes>(
         return Err(e);
     }
     Ok(child)
+}
+
+/// Starts a program with its words, input and limits.
+pub fn launch<R: Processes>(
+    alloc: Global,
+    rt: &R,
+    program: &Program,
+) -> io::Result<Child<R::Started>> {
+    let command = command(alloc, program.words, program.limits)?;
+    begin(rt, command, program)
 }
 
 fn end(status: ExitStatus) -> ChildEnd
