@@ -13,8 +13,6 @@ mod folder;
 mod host;
 mod journal;
 mod sink;
-#[cfg(test)]
-mod tests;
 
 pub use calls::{Fail, HostCall};
 pub use children::{Script, Start};

@@ -10,8 +10,6 @@ mod files;
 mod host;
 mod running;
 mod streams;
-#[cfg(test)]
-mod tests;
 
 pub use host::RealHost;
 pub use streams::{RealClock, RealSink};
