@@ -1,67 +1,80 @@
-// What an evaluator answers, by functions that promise nothing, so that the proof of a test has nothing
-// to carry.
+// What an evaluator answers, as plain numbers, by functions that promise nothing, so that the proof of
+// a test has nothing to carry.
 use h_add::Add;
 use lama_num::{Estimate, NoMemory};
 use sas_task::{CostKind, Fact, Task};
 use std::alloc::{AllocError, Global};
 use test_tasks::fact;
 
-/// What the facts of a task cost, those of one variable after those of another.
-#[derive(Drop)]
-pub struct Answers {
-    pub costs: Vec<Estimate>,
-    pub goal: Estimate,
-    pub dead: bool,
+/// In place of an infinite estimate.
+pub const NEVER: u32 = 4_294_967_295;
+
+fn plain(estimate: Estimate) -> u32 {
+    match estimate {
+        Estimate::Finite(cost) => cost,
+        Estimate::Infinite => NEVER,
+    }
 }
 
-pub fn narrow(number: usize) -> u32 {
+fn narrow(number: usize) -> u32 {
     number.min(4_294_967_295) as u32
 }
 
 /// Adds what the facts of a variable cost.
-fn add_costs(
-    costs: &mut Vec<Estimate>,
+fn push_variable(
+    answers: &mut Vec<u32>,
     add: &Add,
     var: u32,
     values: u32,
 ) -> Result<(), AllocError> {
     for val in 0..values {
-        costs.push(add.value(fact(var, val)))?;
+        answers.push(plain(add.value(fact(var, val))))?;
     }
     Ok(())
 }
 
-fn answers_of(alloc: Global, add: &Add, task: &Task) -> Result<Answers, AllocError> {
-    let mut costs = Vec::new(alloc);
+/// Adds what all facts cost, then the goal's value, and 1 where the state is dead.
+fn push_all(answers: &mut Vec<u32>, add: &Add, task: &Task) -> Result<(), AllocError> {
     for (var, variable) in task.parts().variables.as_slice().iter().enumerate() {
-        add_costs(&mut costs, add, narrow(var), narrow(variable.values.len()))?;
+        push_variable(answers, add, narrow(var), narrow(variable.values.len()))?;
     }
-    Ok(Answers {
-        costs,
-        goal: add.goal_value(),
-        dead: add.is_dead(),
-    })
+    answers.push(plain(add.goal_value()))?;
+    answers.push(u32::from(add.is_dead()))?;
+    Ok(())
 }
 
-/// What one evaluator answers of a state, first without some facts, and then with all.
-pub fn both_answers(
+/// The answers of a state.
+pub fn answers(
     alloc: Global,
     task: &Task,
     kind: CostKind,
     state: &[u32],
-    without: &[Fact],
-) -> Result<(Answers, Answers), NoMemory> {
+) -> Result<Vec<u32>, NoMemory> {
     let mut add = Add::new(alloc, task, kind)?;
-    add.evaluate_without(state, without);
-    let fewer = answers_of(alloc, &add, task)?;
+    let mut answers = Vec::new(alloc);
     add.evaluate(state);
-    let all = answers_of(alloc, &add, task)?;
-    Ok((fewer, all))
+    push_all(&mut answers, &add, task)?;
+    Ok(answers)
 }
 
-/// How many facts, unary operators and goal facts an evaluator has.
-pub fn sizes(alloc: Global, task: &Task) -> Result<(usize, usize, usize), NoMemory> {
+/// The answers of a state without some facts, and after these those with all facts.
+pub fn answers_without(
+    alloc: Global,
+    task: &Task,
+    state: &[u32],
+    without: &[Fact],
+) -> Result<Vec<u32>, NoMemory> {
+    let mut add = Add::new(alloc, task, CostKind::Normal)?;
+    let mut answers = Vec::new(alloc);
+    add.evaluate_without(state, without);
+    push_all(&mut answers, &add, task)?;
+    add.evaluate(state);
+    push_all(&mut answers, &add, task)?;
+    Ok(answers)
+}
+
+/// How many facts and goal facts an evaluator has.
+pub fn sizes(alloc: Global, task: &Task) -> Result<(usize, usize), NoMemory> {
     let add = Add::new(alloc, task, CostKind::Normal)?;
-    let goals = add.relaxed().goals().len();
-    Ok((add.costs().len(), add.tables().gives.len(), goals))
+    Ok((add.costs().len(), add.relaxed().goals().len()))
 }

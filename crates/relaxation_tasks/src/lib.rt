@@ -2,7 +2,5 @@
 #![tactic(auto)]
 
 mod four_values;
-mod random_tasks;
 
 pub use four_values::moves;
-pub use random_tasks::{below, random_task, some_facts, state, values_of};

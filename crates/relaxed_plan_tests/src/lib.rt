@@ -2,6 +2,6 @@
 #![tactic(auto)]
 
 #[cfg(test)]
-mod calls;
+mod answers;
 #[cfg(test)]
 mod plans;
