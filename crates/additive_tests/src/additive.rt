@@ -9,7 +9,9 @@ use test_tasks::{door, fact, rivals};
 
 #[test]
 fn moves_that_cost(rt: HostRuntime) -> Result<(), Fail> {
-    let task = check(moves(rt.alloc(), 4, 3, 2)?)?;
+    let Ok(task) = check(moves(rt.alloc(), 4, 3, 2)?) else {
+        return Err(Fail::from("refused"));
+    };
     let all = answers_without(rt.alloc(), &task, &[0], &[fact(0, 1)])?;
     let worked = [0, NEVER, NEVER, NEVER, NEVER, 1, 0, 4, 7, NEVER, 7, 0];
     assert!(rt; all.as_slice() == worked.as_slice());
@@ -22,7 +24,9 @@ fn moves_that_cost(rt: HostRuntime) -> Result<(), Fail> {
 
 #[test]
 fn costs_that_reach_the_largest(rt: HostRuntime) -> Result<(), Fail> {
-    let task = check(moves(rt.alloc(), 2_147_483_647, 999_999_999, 2)?)?;
+    let Ok(task) = check(moves(rt.alloc(), 2_147_483_647, 999_999_999, 2)?) else {
+        return Err(Fail::from("refused"));
+    };
     let all = answers(rt.alloc(), &task, CostKind::PlusOne, &[0])?;
     let most = 1_000_000_000;
     assert!(rt; all.as_slice() == [0, most, most, NEVER, most, 0].as_slice());
@@ -31,7 +35,9 @@ fn costs_that_reach_the_largest(rt: HostRuntime) -> Result<(), Fail> {
 
 #[test]
 fn a_door_that_must_be_shut_again(rt: HostRuntime) -> Result<(), Fail> {
-    let task = read(rt.alloc(), door().as_bytes())?;
+    let Ok(task) = read(rt.alloc(), door().as_bytes()) else {
+        return Err(Fail::from("refused"));
+    };
     let open = answers(rt.alloc(), &task, CostKind::Normal, &[1, 0, 1])?;
     assert!(rt; open.as_slice() == [1, 0, 0, 1, 0, 0, 1, 0].as_slice());
     let shut = answers(rt.alloc(), &task, CostKind::Normal, &[0, 0, 0])?;
@@ -42,7 +48,9 @@ fn a_door_that_must_be_shut_again(rt: HostRuntime) -> Result<(), Fail> {
 
 #[test]
 fn operators_without_conditions(rt: HostRuntime) -> Result<(), Fail> {
-    let task = read(rt.alloc(), rivals().as_bytes())?;
+    let Ok(task) = read(rt.alloc(), rivals().as_bytes()) else {
+        return Err(Fail::from("refused"));
+    };
     let without = [fact(1, 1), fact(0, 0)];
     let all = answers_without(rt.alloc(), &task, &[0, 0], &without)?;
     let worked = [NEVER, 1, 0, NEVER, NEVER, 1, 0, 1, 0, 1, 2, 0];

@@ -8,7 +8,9 @@ use test_tasks::{door, rivals};
 
 #[test]
 fn the_lowest_numbered_of_equal_supporters(rt: HostRuntime) -> Result<(), Fail> {
-    let task = check(moves(rt.alloc(), 0, 3, 2)?)?;
+    let Ok(task) = check(moves(rt.alloc(), 0, 3, 2)?) else {
+        return Err(Fail::from("refused"));
+    };
     let far = answers(&rt, &task, &[0])?;
     assert!(rt; far.as_slice() == [3, 0, 2, AND, 0].as_slice());
     let near = answers(&rt, &task, &[1])?;
@@ -20,7 +22,9 @@ fn the_lowest_numbered_of_equal_supporters(rt: HostRuntime) -> Result<(), Fail> 
 
 #[test]
 fn a_plan_that_costs_more_than_the_largest_estimate(rt: HostRuntime) -> Result<(), Fail> {
-    let task = check(moves(rt.alloc(), 0, 2_000_000_000, 2)?)?;
+    let Ok(task) = check(moves(rt.alloc(), 0, 2_000_000_000, 2)?) else {
+        return Err(Fail::from("refused"));
+    };
     let all = answers(&rt, &task, &[0])?;
     assert!(rt; all.as_slice() == [1_000_000_000, 0, 2, AND, 0].as_slice());
     Ok(())
@@ -28,7 +32,9 @@ fn a_plan_that_costs_more_than_the_largest_estimate(rt: HostRuntime) -> Result<(
 
 #[test]
 fn goals_that_destroy_each_other(rt: HostRuntime) -> Result<(), Fail> {
-    let task = read(rt.alloc(), rivals().as_bytes())?;
+    let Ok(task) = read(rt.alloc(), rivals().as_bytes()) else {
+        return Err(Fail::from("refused"));
+    };
     let all = answers(&rt, &task, &[0, 0])?;
     assert!(rt; all.as_slice() == [2, 0, 1, AND, 0, 1].as_slice());
     Ok(())
@@ -36,7 +42,9 @@ fn goals_that_destroy_each_other(rt: HostRuntime) -> Result<(), Fail> {
 
 #[test]
 fn a_door_that_must_be_shut_again(rt: HostRuntime) -> Result<(), Fail> {
-    let task = read(rt.alloc(), door().as_bytes())?;
+    let Ok(task) = read(rt.alloc(), door().as_bytes()) else {
+        return Err(Fail::from("refused"));
+    };
     let open = answers(&rt, &task, &[1, 0, 1])?;
     assert!(rt; open.as_slice() == [1, 0, AND, 0].as_slice());
     let shut = answers(&rt, &task, &[0, 0, 0])?;

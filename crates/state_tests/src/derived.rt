@@ -56,7 +56,9 @@ fn settled(
 #[test]
 fn derived_variables_follow(rt: HostRuntime) -> Result<(), Fail> {
     let alloc = rt.alloc();
-    let task = read(alloc, two_layers().as_bytes())?;
+    let Ok(task) = read(alloc, two_layers().as_bytes()) else {
+        return Err(Fail::from("refused"));
+    };
     let (start, next) = first_states(&rt, alloc, &task)?;
     assert_eq!(rt; start, [0, 0, 1]);
     assert_eq!(rt; next, [1, 1, 0]);

@@ -83,7 +83,9 @@ fn expect_first(rt: &impl Abort, alloc: Global, task: &Task) -> Result<(), NoMem
 
 #[test]
 fn steps_between_three_places(rt: HostRuntime) -> Result<(), Fail> {
-    let task = read(rt.alloc(), three_places().as_bytes())?;
+    let Ok(task) = read(rt.alloc(), three_places().as_bytes()) else {
+        return Err(Fail::from("refused"));
+    };
     expect_first(&rt, rt.alloc(), &task)?;
     let steps = [(0, 0, Some(1)), (0, 1, None), (1, 1, Some(2))];
     for (state, op, next) in steps {
@@ -94,7 +96,9 @@ fn steps_between_three_places(rt: HostRuntime) -> Result<(), Fail> {
 
 #[test]
 fn runs_between_three_places(rt: HostRuntime) -> Result<(), Fail> {
-    let task = read(rt.alloc(), three_places().as_bytes())?;
+    let Ok(task) = read(rt.alloc(), three_places().as_bytes()) else {
+        return Err(Fail::from("refused"));
+    };
     let runs: [(&[u32], RunEnd); 4] = [
         (&[2], RunEnd::Goal { cost: 5 }),
         (&[0, 1], RunEnd::Goal { cost: 2 }),
