@@ -1,115 +1,67 @@
 -- One whole evaluation.
-use Rattle.std.proofs.Common.{◌≡◌, ◌∙◌, sym, ap, subst, refl, ℕ, ◌+◌, ◌≤◌, List, [], ◌∷◌, ◌++◌, ◌<◌, nat_lt, length, get_or, map, take, replicate, ◌≢◌, ◌⊎◌, inl, inr, nat_eq, ◌||◌, slice_set, get_or-set_other, get_or-set_same, Bool, true, false, not, arith, zero, suc}
-use Rattle.std.proofs.lemmas.Bool.Decides.{nat_tests}
+use Rattle.std.proofs.Common.{◌≡◌, ◌∙◌, sym, ap, subst, refl, ℕ, ◌⊎◌, inl, inr, List, [], ◌∷◌, ◌++◌, ◌<◌, nat_lt, nat_le, map, not, ◌&&◌, Bool, true, false, arith}
 use Rattle.std.specs.List.{list_all}
-use Rattle.std.proofs.lemmas.List.{take_more, take_all}
-use Rattle.std.proofs.lemmas.List.Folds.{list_any-append}
-use Rattle.lama_num.specs.Lists.{both}
+use Rattle.cost_queue.specs.Queues.{IsIdle}
 use Rattle.sas_task.specs.declared.contents.CostKind.{CostKind}
 use Rattle.sas_task.specs.declared.contents.Fact.{Fact}
 use Rattle.sas_task.specs.declared.contents.Parts.{Parts}
-use Rattle.sas_task.specs.declared.contents.Variable.{Variable}
 use Rattle.sas_task.specs.States.{IsState}
 use Rattle.sas_task.specs.WellFormed.{is_fact}
 use Rattle.relaxed_task.specs.declared.relaxation.Lists.{Lists}
 use Rattle.relaxed_task.specs.declared.unary.Unary.{Unary}
-use Rattle.relaxed_task.specs.NumberLaws.{start_numbers, numbers_by-is, state_below, number_by-is, number_below}
-use Rattle.relaxed_task.specs.Numbers.{numbers_by, number_of, numbers_of, number_by}
-use Rattle.relaxed_task.specs.Numbers.{is_among}
-use Rattle.h_add.specs.ByNumber.{start_facts}
+use Rattle.relaxed_task.specs.Estimates.{IsLeast}
+use Rattle.relaxed_task.specs.NumberLaws.{numbers_by-is, state_below, numbers_same, numbers_below, start_numbers}
+use Rattle.relaxed_task.specs.Numbers.{numbers_by, numbers_of, number_by, is_among}
+use Rattle.h_add.specs.ByNumber.{start_facts, add_round, IsAdd}
 use Rattle.relaxed_task.specs.Relaxations.{IsRelaxed}
-use Rattle.h_add.specs.Counts.{unseen, IsCounted, IsSeen}
-use Rattle.h_add.specs.Marks.{AreMarked}
-use Rattle.h_add.specs.Queues.{is_waiting, one_if}
-use Rattle.h_add.specs.Tables.{are_below}
-use Rattle.h_add.specs.UnderWay.{is_out, IsOut}
-use Rattle.h_add.specs.Values.{value_at}
-use Rattle.relaxed_task.specs.Elements.{places}
-use Rattle.h_add.proofs.Summing.{map_at}
+use Rattle.h_add.specs.Networks.{are_below}
+use Rattle.h_add.specs.Orders.{IsOrder}
+use Rattle.h_add.specs.Settlements.{Settlement, cost_at, is_settled, is_reached, is_left_out}
+use Rattle.h_add.specs.UnderWay.{IsSettling, IsFrom, AreSettled}
+use Rattle.h_add.specs.Values.{value_at, IsEvaluatedByNumber}
+use Rattle.h_add.proofs.Exact.{idle_exact, reached_exact, order_of}
 
--- the facts that are marked are those of round 0
+-- the facts that are there at first have numbers of the relaxation
 pub state_numbers_below : (parts : Parts) (kind : CostKind) (relaxed : Lists) (state : List ℕ) → IsRelaxed parts kind relaxed → IsState parts.variables state → are_below relaxed.facts (numbers_by relaxed.offsets state) ≡ true
 state_numbers_below parts kind relaxed state is of = rw (numbers_by-is parts.variables relaxed.offsets state is.offsets of, is.facts) (state_below parts.variables state of)
 
-pub start_is : (parts : Parts) (kind : CostKind) (relaxed : Lists) (state : List ℕ) → IsRelaxed parts kind relaxed → IsState parts.variables state → numbers_by relaxed.offsets state ++ relaxed.defaults ≡ start_facts parts state
-start_is parts kind relaxed state is of = start_numbers parts kind relaxed state is of
-
--- at the start nothing was looked at
-all_unseen : (flags : List Bool) (conds : List ℕ) → ((fact : ℕ) → is_out flags fact ≡ false) → unseen (is_out flags) conds ≡ length conds
-all_unseen flags [] none = refl
-all_unseen flags (c ∷ conds) none =
-    let rest = all_unseen flags conds none in
-    let here : one_if (not (is_out flags c)) ≡ 1 = ap (λ (b : Bool). one_if (not b)) (none c) in
-    omega arith
-
-pub counts_start : (unaries : List Unary) (counts : List ℕ) (seen : List Bool) → counts ≡ map (λ u. length u.conds) unaries → ((fact : ℕ) → is_out seen fact ≡ false) → IsCounted unaries (is_out seen) counts
-counts_start unaries counts seen are none i u at =
-    ap (λ (xs : List ℕ). get_or xs i 0) are ∙ (map_at (λ (u : Unary). length u.conds) unaries i u 0 at ∙ sym (all_unseen seen u.conds none))
-
-pub seen_start : (out : List Bool) (facts costs : List ℕ) (waiting : List Bool) (seen : ℕ → Bool) → AreMarked out facts costs waiting → IsSeen (value_at costs) (is_waiting waiting) seen
-seen_start out facts costs waiting seen m fact done = let k : true ≡ false = sym done ∙ m.none_done fact in cc
-
--- the numbers of facts that are left out
-pub numbers_same : (variables : List Variable) (offsets : List ℕ) (facts : List Fact) → ((fact : Fact) → is_fact variables fact ≡ true → number_by offsets fact ≡ number_of variables fact) → list_all (is_fact variables) facts ≡ true → map (number_by offsets) facts ≡ numbers_of variables facts
-numbers_same variables offsets [] one all = refl
-numbers_same variables offsets (f ∷ facts) one all =
-    let parts = both (is_fact variables f) (list_all (is_fact variables) facts) all in
-    let here = one f parts.0 in
-    let rest = numbers_same variables offsets facts one parts.1 in
-    cc
-
 pub excluded_is : (parts : Parts) (kind : CostKind) (relaxed : Lists) (facts : List Fact) → IsRelaxed parts kind relaxed → list_all (is_fact parts.variables) facts ≡ true → map (number_by relaxed.offsets) facts ≡ numbers_of parts.variables facts
-excluded_is parts kind relaxed facts is all = numbers_same parts.variables relaxed.offsets facts (λ fact there. number_by-is parts.variables relaxed.offsets fact is.offsets there) all
-
-numbers_below : (variables : List Variable) (n : ℕ) (facts : List Fact) → ((fact : Fact) → is_fact variables fact ≡ true → number_of variables fact < n) → list_all (is_fact variables) facts ≡ true → are_below n (numbers_of variables facts) ≡ true
-numbers_below variables n [] one all = refl
-numbers_below variables n (f ∷ facts) one all =
-    let parts = both (is_fact variables f) (list_all (is_fact variables) facts) all in
-    let here = below_test (number_of variables f) n (one f parts.0) in
-    rw here (numbers_below variables n facts one parts.1)
-  where
-    below_test : (a b : ℕ) → a < b → nat_lt a b ≡ true
-    below_test a b lt = grind (arith, nat_tests)
+excluded_is parts kind relaxed facts is all = numbers_same parts.variables relaxed.offsets facts is.offsets all
 
 pub excluded_below : (parts : Parts) (kind : CostKind) (relaxed : Lists) (facts : List Fact) → IsRelaxed parts kind relaxed → list_all (is_fact parts.variables) facts ≡ true → are_below relaxed.facts (map (number_by relaxed.offsets) facts) ≡ true
-excluded_below parts kind relaxed facts is all = rw (excluded_is parts kind relaxed facts is all, is.facts) (numbers_below parts.variables _ facts (λ fact there. number_below parts.variables fact there) all)
+excluded_below parts kind relaxed facts is all = rw (excluded_is parts kind relaxed facts is all, is.facts) (numbers_below parts.variables facts all)
 
--- one fact more is left out
-pub out_more : (numbers : List ℕ) (old new : List Bool) (k number : ℕ) → k < length numbers → number ≡ get_or numbers k 0 → number < length old → new ≡ slice_set old number true → IsOut (take k numbers) old → IsOut (take (k + 1) numbers) new
-out_more numbers old new k number lt at within is so fact =
-    rw (is, take_more numbers k 0 lt, ← at, list_any-append (nat_eq fact) (take k numbers) (number ∷ [])) (by_place (places fact number))
+-- the numbers of a relaxation
+start_as : (parts : Parts) (kind : CostKind) (relaxed : Lists) (state without : List ℕ) (t : Settlement) (fact : ℕ) → IsRelaxed parts kind relaxed → IsState parts.variables state →
+    IsLeast (λ n. add_round relaxed.unaries (numbers_by relaxed.offsets state ++ relaxed.defaults) without n fact) (value_at t.costs fact) → IsAdd parts kind state without fact (value_at t.costs fact)
+start_as parts kind relaxed state without t fact is of least =
+    subst (λ (us : List Unary). IsLeast (λ (n : ℕ). add_round us (start_facts parts state) without n fact) (value_at t.costs fact)) is.unaries
+    (subst (λ (start : List ℕ). IsLeast (λ (n : ℕ). add_round relaxed.unaries start without n fact) (value_at t.costs fact)) (start_numbers parts kind relaxed state is of) least)
+
+pub all_evaluated : (parts : Parts) (kind : CostKind) (relaxed : Lists) (state without : List ℕ) (t : Settlement) → IsRelaxed parts kind relaxed → IsState parts.variables state → IsIdle t.waiting → IsSettling relaxed.unaries t →
+    IsFrom relaxed.unaries (numbers_by relaxed.offsets state ++ relaxed.defaults) without (numbers_by relaxed.offsets state ++ relaxed.defaults) t → IsEvaluatedByNumber parts kind state without t.costs
+all_evaluated parts kind relaxed state without t is of idle way from fact =
+    start_as parts kind relaxed state without t fact is of (idle_exact relaxed.unaries (numbers_by relaxed.offsets state ++ relaxed.defaults) without t idle way from fact)
+
+pub all_ordered : (parts : Parts) (kind : CostKind) (relaxed : Lists) (state : List ℕ) (t : Settlement) → IsRelaxed parts kind relaxed → IsState parts.variables state → IsIdle t.waiting → IsSettling relaxed.unaries t →
+    IsFrom relaxed.unaries (numbers_by relaxed.offsets state ++ relaxed.defaults) [] (numbers_by relaxed.offsets state ++ relaxed.defaults) t → IsOrder relaxed.unaries (start_facts parts state) (value_at t.costs) t.order
+all_ordered parts kind relaxed state t is of idle way from =
+    subst (λ (start : List ℕ). IsOrder relaxed.unaries start (value_at t.costs) t.order) (start_numbers parts kind relaxed state is of) (order_of relaxed.unaries (numbers_by relaxed.offsets state ++ relaxed.defaults) t idle way from)
+
+pub goals_evaluated : (parts : Parts) (kind : CostKind) (relaxed : Lists) (state goals : List ℕ) (t : Settlement) → IsRelaxed parts kind relaxed → IsState parts.variables state → AreSettled goals t → IsSettling relaxed.unaries t →
+    IsFrom relaxed.unaries (numbers_by relaxed.offsets state ++ relaxed.defaults) [] (numbers_by relaxed.offsets state ++ relaxed.defaults) t → (fact : ℕ) → is_among goals fact ≡ true → IsAdd parts kind state [] fact (value_at t.costs fact)
+goals_evaluated parts kind relaxed state goals t is of settled way from fact among = start_as parts kind relaxed state [] t fact is of (by_case settled)
   where
-    last : (a : Bool) → true ≡ (a || (true || false))
-    last true = refl
-    last false = refl
+    small : (a b : Bool) → a ≡ true → (a && not b) ≡ false → (a && b) ≡ true
+    small true true is out = refl
+    small true false is out = let k : true ≡ false = out in cc
+    small false b is out = is
 
-    same : (a : Bool) → a ≡ (a || (false || false))
-    same true = refl
-    same false = refl
+    by_case : AreSettled goals t → IsLeast (λ n. add_round relaxed.unaries (numbers_by relaxed.offsets state ++ relaxed.defaults) [] n fact) (value_at t.costs fact)
+    by_case (inl all) =
+        reached_exact relaxed.unaries (numbers_by relaxed.offsets state ++ relaxed.defaults) [] t fact (small (is_settled t fact) (nat_le (cost_at t fact) 1000000000) (all fact among) (from.out fact)) way from
+    by_case (inr idle) = idle_exact relaxed.unaries (numbers_by relaxed.offsets state ++ relaxed.defaults) [] t idle way from fact
 
-    by_place : ((fact ≡ number) × (nat_eq fact number ≡ true)) ⊎ ((fact ≢ number) × (nat_eq fact number ≡ false)) → is_out (slice_set old number true) fact ≡ (is_among (take k numbers) fact || (nat_eq fact number || false))
-    by_place (inl here) =
-        let set_there : is_out (slice_set old number true) number ≡ true = get_or-set_same old number true false within in
-        rw here.1 (ap (is_out (slice_set old number true)) here.0 ∙ (set_there ∙ last (is_among (take k numbers) fact)))
-    by_place (inr other) =
-        rw other.1 (get_or-set_other old number fact true false other.0 ∙ (so fact ∙ same (is_among (take k numbers) fact)))
-
-pub map_read : {X : Type 0} (f : X → ℕ) (xs : List X) (i : ℕ) (d : X) → i < length xs → f (get_or xs i d) ≡ get_or (map f xs) i 0
-map_read f [] i d lt = absurd (omega arith)
-map_read f (y ∷ xs) zero d lt = refl
-map_read f (y ∷ xs) (suc i) d lt = map_read f xs i d (omega arith)
-
-pub long_flags : (n : ℕ) → length (replicate n false) ≡ n
-long_flags zero = refl
-long_flags (suc n) = ap suc (long_flags n)
-
-pub none_set : (n fact : ℕ) → is_out (replicate n false) fact ≡ false
-none_set zero fact = refl
-none_set (suc n) zero = refl
-none_set (suc n) (suc fact) = none_set n fact
-
-pub out_none : (out : List Bool) → ((fact : ℕ) → is_out out fact ≡ false) → IsOut [] out
-out_none out none fact = none fact
-
-pub out_whole : (numbers : List ℕ) (out : List Bool) (k : ℕ) → length numbers ≤ k → IsOut (take k numbers) out → IsOut numbers out
-out_whole numbers out k le so = subst (λ (xs : List ℕ). IsOut xs out) (take_all k numbers le) so
+-- nothing is left out where no facts are given
+pub none_excluded : (offsets : List ℕ) (facts : List Fact) (n : ℕ) → facts ≡ [] → are_below n (map (number_by offsets) facts) ≡ true
+none_excluded offsets facts n none = rw none refl

@@ -1,40 +1,27 @@
 -- Lists that grow by a place.
-use Rattle.std.proofs.Common.{◌≡◌, ◌≢◌, ◌∙◌, sym, ap, refl, ℕ, zero, suc, ◌+◌, ◌<◌, ◌≤◌, ◌⊎◌, inl, inr, List, [], ◌∷◌, ◌++◌, length, get_or, take, replicate, map, Bool, true, false, nat_eq, nat_lt, ◌||◌, arith, Some, slice_get, slice_set, get_or-set_other, get_or-set_same, Result, Ok, Err, IfOk, IsTrue, if◌then◌else◌}
+use Rattle.std.proofs.Common.{◌≡◌, ◌≢◌, ◌∙◌, sym, ap, refl, ℕ, zero, suc, ◌+◌, ◌<◌, ◌≤◌, ◌⊎◌, inl, inr, List, [], ◌∷◌, ◌++◌, length, get_or, take, drop, ◌-◌, replicate, map, Bool, true, false, nat_eq, nat_lt, ◌||◌, arith, Some, slice_get, slice_set, get_or-set_other, get_or-set_same, Result, Ok, Err, IfOk, IsTrue, if◌then◌else◌}
 use Rattle.std.specs.List.{list_all}
 use Rattle.std.proofs.lemmas.Bool.Decides.{nat_tests}
-use Rattle.std.proofs.lemmas.List.{take_more, length-set}
+use Rattle.std.proofs.lemmas.List.{take_more, length-set, drop_all, take_all, append-nil}
 use Rattle.std.proofs.lemmas.List.Folds.{list_any-append, list_all-append}
 use Rattle.std.proofs.lemmas.Option.{slice_get_within, slice_get-get_or}
+use Rattle.cost_queue.specs.Occurrences.{one_if, occurrences}
 use Rattle.lama_num.specs.Lists.{both, list_all_get}
-use Rattle.lama_num.specs.declared.memory.NoMemory.{NoMemory}
+use Rattle.lama_num.specs.Rows.{row_at}
 use Rattle.relaxed_task.specs.declared.unary.Unary.{Unary}
-use Rattle.relaxed_task.specs.Numbers.{is_among}
 use Rattle.relaxed_task.specs.Numbers.{is_below, is_unary_below}
-use Rattle.h_add.specs.Counts.{occurrences}
-use Rattle.h_add.specs.Occurrences.{occurrences_last}
-use Rattle.h_add.specs.Queues.{one_if}
-use Rattle.h_add.specs.Rows.{row_at}
-use Rattle.h_add.specs.Listings.{Lists}
-use Rattle.h_add.specs.Tables.{are_within, are_below}
-use Rattle.relaxed_task.specs.Elements.{places}
-
-same_place : (n : ℕ) → nat_eq n n ≡ true
-same_place n = grind (arith, nat_tests)
+use Rattle.relaxed_task.specs.Elements.{places, join}
+use Rattle.relaxed_task.specs.NumberLaws.{weaker}
+use Rattle.lama_num.specs.declared.memory.NoMemory.{NoMemory}
+use Rattle.h_add.specs.Listings.{Listed}
+use Rattle.h_add.specs.Networks.{are_within, are_below, needed, IsNeeds, IsNeededBy, AreFree}
 
 below_test : (m n : ℕ) → m < n → nat_lt m n ≡ true
 below_test m n lt = grind (arith, nat_tests)
 
-either : (a b : Bool) → (a ≡ true) ⊎ (b ≡ true) → (a || b) ≡ true
-either true b h = refl
-either false b (inl h) = let k : false ≡ true = h in cc
-either false b (inr h) = h
-
--- an element more
-pub among_more : (xs : List ℕ) (i place : ℕ) → is_among xs i ≡ true → is_among (xs ++ place ∷ []) i ≡ true
-among_more xs i place h = rw (list_any-append (nat_eq i) xs (place ∷ []), h) refl
-
-pub among_last : (xs : List ℕ) (place : ℕ) → is_among (xs ++ place ∷ []) place ≡ true
-among_last xs place = rw (list_any-append (nat_eq place) xs (place ∷ []), same_place place) (either (is_among xs place) true (inr refl))
+occurrences_last : (x : ℕ) (ys : List ℕ) (y : ℕ) → occurrences x (ys ++ y ∷ []) ≡ occurrences x ys + one_if (nat_eq x y)
+occurrences_last x [] y = omega arith
+occurrences_last x (z ∷ ys) y = let rest = occurrences_last x ys y in omega arith
 
 pub within_more : (n place : ℕ) (xs : List ℕ) → are_within n xs ≡ true → place < n → are_within n (xs ++ place ∷ []) ≡ true
 within_more n place xs all lt =
@@ -51,7 +38,7 @@ all_row p [] i all none = none
 all_row p (row ∷ rows) zero all none = (both (p row) (list_all p rows) all).0
 all_row p (row ∷ rows) (suc i) all none = all_row p rows i (both (p row) (list_all p rows) all).1 none
 
-pub none_added : (old : List (List ℕ)) (place : ℕ) → Lists old old [] place
+pub none_added : (old : List (List ℕ)) (place : ℕ) → Listed old old [] place
 none_added old place = record {
   long = refl;
   counts = λ fact i. by_test (nat_eq i place) (occurrences i (row_at old fact));
@@ -64,7 +51,7 @@ none_added old place = record {
 
 -- one list grew
 pub fact_added : (old mid new : List (List ℕ)) (facts : List ℕ) (k fact place : ℕ) → k < length facts → fact ≡ get_or facts k 0 → fact < length mid → new ≡ slice_set mid fact (row_at mid fact ++ place ∷ []) →
-    Lists old mid (take k facts) place → Lists old new (take (k + 1) facts) place
+    Listed old mid (take k facts) place → Listed old new (take (k + 1) facts) place
 fact_added old mid new facts k fact place lt at within is so = record {
   long = ap length is ∙ (length-set mid fact (row_at mid fact ++ place ∷ []) ∙ so.long);
   counts = λ f i. rw (is, take_more facts k 0 lt, ← at) (by_place f i (places f fact));
@@ -98,12 +85,12 @@ fact_added old mid new facts k fact place lt at within is so = record {
         ap (occurrences i) (get_or-set_other mid fact f (row_at mid fact ++ place ∷ []) [] other.0) ∙ none_here f i (occurrences i (row_at mid f)) (nat_eq i place) refl (so.counts f i) other.1
 
 -- the unary operators so far, and none of the others
-pub record AreNeeded (unaries : List Unary) (k : ℕ) (needs : List (List ℕ)) : Type 0 where
-  pub those : (i : ℕ) (u : Unary) (fact : ℕ) → i < k → slice_get unaries i ≡ Some u → occurrences i (row_at needs fact) ≡ occurrences fact u.conds
+pub record AreNeeded (unaries : List Unary) (always k : ℕ) (needs : List (List ℕ)) : Type 0 where
+  pub those : (i : ℕ) (u : Unary) (fact : ℕ) → i < k → slice_get unaries i ≡ Some u → occurrences i (row_at needs fact) ≡ occurrences fact (needed always u.conds)
   pub others : (i fact : ℕ) → k ≤ i → occurrences i (row_at needs fact) ≡ 0
 
-pub none_needed : (unaries : List Unary) (needs : List (List ℕ)) → ((fact : ℕ) → row_at needs fact ≡ []) → AreNeeded unaries 0 needs
-none_needed unaries needs none = record {
+pub none_needed : (unaries : List Unary) (always : ℕ) (needs : List (List ℕ)) → ((fact : ℕ) → row_at needs fact ≡ []) → AreNeeded unaries always 0 needs
+none_needed unaries always needs none = record {
   those = λ i u fact lt at. absurd (omega arith);
   others = λ i fact le. ap (occurrences i) (none fact);
 }
@@ -114,21 +101,21 @@ item_is xs i x y lt read at =
     let k : Some y ≡ Some x = sym at ∙ here in
     cc
 
-pub needed_more : (unaries : List Unary) (k : ℕ) (u : Unary) (conds : List ℕ) (old new : List (List ℕ)) → k < length unaries → u ≡ get_or unaries k u → conds ≡ u.conds → Lists old new conds k → AreNeeded unaries k old → AreNeeded unaries (k + 1) new
-needed_more unaries k u conds old new lt read shown grown so = record {
+pub needed_more : (unaries : List Unary) (always k : ℕ) (u : Unary) (old new : List (List ℕ)) → k < length unaries → u ≡ get_or unaries k u → Listed old new (needed always u.conds) k → AreNeeded unaries always k old → AreNeeded unaries always (k + 1) new
+needed_more unaries always k u old new lt read grown so = record {
   those = λ i x fact less at. by_place i x fact less at (places i k);
   others = λ i fact le. (let was = so.others i fact (omega arith) in
       let other : nat_eq i k ≡ false = grind (arith, nat_tests) in
       grown.counts fact i ∙ rw other (omega arith));
 }
   where
-    by_place : (i : ℕ) (x : Unary) (fact : ℕ) → i < k + 1 → slice_get unaries i ≡ Some x → ((i ≡ k) × (nat_eq i k ≡ true)) ⊎ ((i ≢ k) × (nat_eq i k ≡ false)) → occurrences i (row_at new fact) ≡ occurrences fact x.conds
+    by_place : (i : ℕ) (x : Unary) (fact : ℕ) → i < k + 1 → slice_get unaries i ≡ Some x → ((i ≡ k) × (nat_eq i k ≡ true)) ⊎ ((i ≢ k) × (nat_eq i k ≡ false)) → occurrences i (row_at new fact) ≡ occurrences fact (needed always x.conds)
     by_place i x fact less at (inl here) =
         let at_k : slice_get unaries k ≡ Some x = ap (λ (n : ℕ). slice_get unaries n) (sym here.0) ∙ at in
         let same : x ≡ u = item_is unaries k u x lt read at_k in
-        let conds_same : occurrences fact x.conds ≡ occurrences fact conds = ap (λ (y : Unary). occurrences fact y.conds) same ∙ ap (occurrences fact) (sym shown) in
+        let conds_same : occurrences fact (needed always x.conds) ≡ occurrences fact (needed always u.conds) = ap (λ (y : Unary). occurrences fact (needed always y.conds)) same in
         let was = so.others i fact (omega arith) in
-        let now : occurrences i (row_at new fact) ≡ occurrences i (row_at old fact) + occurrences fact conds = rw here.1 at (grown.counts fact i) in
+        let now : occurrences i (row_at new fact) ≡ occurrences i (row_at old fact) + occurrences fact (needed always u.conds) = rw here.1 at (grown.counts fact i) in
         omega arith
     by_place i x fact less at (inr other) =
         let ne = other.0 in
@@ -136,29 +123,8 @@ needed_more unaries k u conds old new lt read shown grown so = record {
         let now : occurrences i (row_at new fact) ≡ occurrences i (row_at old fact) + 0 = rw other.1 at (grown.counts fact i) in
         omega arith
 
--- those without conditions, so far
-abbrev pub AreFreeBelow : List Unary → ℕ → List ℕ → Type 0
-AreFreeBelow unaries k free = (i : ℕ) (u : Unary) → i < k → slice_get unaries i ≡ Some u → u.conds ≡ [] → is_among free i ≡ true
-
-pub free_more : (unaries : List Unary) (k : ℕ) (old new : List ℕ) → new ≡ old ++ k ∷ [] → AreFreeBelow unaries k old → AreFreeBelow unaries (k + 1) new
-free_more unaries k old new is so i x less at none = by_place (places i k)
-  where
-    by_place : ((i ≡ k) × (nat_eq i k ≡ true)) ⊎ ((i ≢ k) × (nat_eq i k ≡ false)) → is_among new i ≡ true
-    by_place (inl here) = rw (is, here.0) (among_last old k)
-    by_place (inr other) = let ne = other.0 in rw is (among_more old i k (so i x (omega arith) at none))
-
-pub free_same : (unaries : List Unary) (k : ℕ) (u : Unary) (free : List ℕ) → k < length unaries → u ≡ get_or unaries k u → (u.conds ≡ [] → ⊥) → AreFreeBelow unaries k free → AreFreeBelow unaries (k + 1) free
-free_same unaries k u free lt read some so i x less at none = by_place (places i k)
-  where
-    by_place : ((i ≡ k) × (nat_eq i k ≡ true)) ⊎ ((i ≢ k) × (nat_eq i k ≡ false)) → is_among free i ≡ true
-    by_place (inl here) =
-        let at_k : slice_get unaries k ≡ Some x = ap (λ (n : ℕ). slice_get unaries n) (sym here.0) ∙ at in
-        let same : x ≡ u = item_is unaries k u x lt read at_k in
-        absurd (some (ap (λ (y : Unary). y.conds) (sym same) ∙ none))
-    by_place (inr other) = let ne = other.0 in so i x (omega arith) at none
-
 -- no lists
-pub none_there : (facts fact : ℕ) → row_at (replicate facts []) fact ≡ []
+pub none_there : (facts fact : ℕ) → row_at {X = ℕ} (replicate facts []) fact ≡ []
 none_there zero fact = refl
 none_there (suc facts) zero = refl
 none_there (suc facts) (suc fact) = none_there facts fact
@@ -175,28 +141,14 @@ gives_below n (u ∷ unaries) all =
     let here = both (list_all (is_below n) u.conds) (is_below n u.gives) parts.0 in
     rw here.1 (gives_below n unaries parts.1)
 
-pub conds_below : (n : ℕ) (unaries : List Unary) → list_all (is_unary_below n) unaries ≡ true → list_all (are_below n) (map (λ u. u.conds) unaries) ≡ true
-conds_below n [] all = refl
-conds_below n (u ∷ unaries) all =
-    let parts = both (is_unary_below n u) (list_all (is_unary_below n) unaries) all in
-    let here = both (list_all (is_below n) u.conds) (is_below n u.gives) parts.0 in
-    rw here.0 (conds_below n unaries parts.1)
-
 -- the conditions of one
 pub conds_at : (n : ℕ) (unaries : List Unary) (i : ℕ) (u : Unary) (conds : List ℕ) → list_all (is_unary_below n) unaries ≡ true → i < length unaries → u ≡ get_or unaries i u → conds ≡ u.conds → are_below n conds ≡ true
 conds_at n [] i u conds all lt at shown = absurd (omega arith)
 conds_at n (x ∷ unaries) zero u conds all lt at shown = rw (shown, at) (both (list_all (is_below n) x.conds) (is_below n x.gives) (both (is_unary_below n x) (list_all (is_unary_below n) unaries) all).0).0
 conds_at n (x ∷ unaries) (suc i) u conds all lt at shown = conds_at n unaries i u conds (both (is_unary_below n x) (list_all (is_unary_below n) unaries) all).1 (omega arith) at shown
 
-pub all_needed : (unaries : List Unary) (k : ℕ) (needs : List (List ℕ)) → length unaries ≤ k → AreNeeded unaries k needs → (i : ℕ) (u : Unary) (fact : ℕ) → slice_get unaries i ≡ Some u → occurrences i (row_at needs fact) ≡ occurrences fact u.conds
-all_needed unaries k needs le so i u fact at = let lt = slice_get_within unaries i u at in so.those i u fact (omega arith) at
-
-pub all_free : (unaries : List Unary) (k : ℕ) (free : List ℕ) → length unaries ≤ k → AreFreeBelow unaries k free → (i : ℕ) (u : Unary) → slice_get unaries i ≡ Some u → u.conds ≡ [] → is_among free i ≡ true
-all_free unaries k free le so i u at none = let lt = slice_get_within unaries i u at in so i u (omega arith) at none
-
-pub rows_within : (n : ℕ) (lists shown : List (List ℕ)) (read : Result (List (List ℕ)) NoMemory) → shown ≡ lists → list_all (are_within n) lists ≡ true → IfOk read (λ rows. rows ≡ shown) → IfOk read (λ rows. IsTrue (list_all (are_within n) rows))
-rows_within n lists shown (Ok rows) same all is = rw (is, same) all
-rows_within n lists shown (Err e) same all is = tt
+pub all_needed : (unaries : List Unary) (always k : ℕ) (needs : List (List ℕ)) → length unaries ≤ k → AreNeeded unaries always k needs → IsNeeds unaries always needs
+all_needed unaries always k needs le so fact i u at = let lt = slice_get_within unaries i u at in so.those i u fact (omega arith) at
 
 pub below_at : (n : ℕ) (facts : List ℕ) (i x : ℕ) → are_below n facts ≡ true → i < length facts → x ≡ get_or facts i 0 → x < n
 below_at n [] i x all lt at = absurd (omega arith)
@@ -205,3 +157,46 @@ below_at n (y ∷ facts) (suc i) x all lt at = below_at n facts i x (both (is_be
 
 pub below_get : (n : ℕ) (facts : List ℕ) (i x : ℕ) → are_below n facts ≡ true → slice_get facts i ≡ Some x → x < n
 below_get n facts i x all at = let here : is_below n x ≡ true = list_all_get (is_below n) facts i x all at in grind (arith, nat_tests, here)
+
+pub rows_within : (n : ℕ) (lists shown : List (List ℕ)) (read : Result (List (List ℕ)) NoMemory) → shown ≡ lists → list_all (are_within n) lists ≡ true → IfOk read (λ rows. rows ≡ shown) → IfOk read (λ rows. IsTrue (list_all (are_within n) rows))
+rows_within n lists shown (Ok rows) same all is = rw (is, same) all
+rows_within n lists shown (Err e) same all is = tt
+
+-- a list that was written whole
+pub written_back : {X : Type 0} (len : ℕ) (new old : List X) → length new ≡ len → length old ≡ len → take len (new ++ drop (length new) old) ≡ new
+written_back len new old long same =
+    let none : drop (length new) old ≡ [] = drop_all (length new) old (omega arith) in
+    rw (none, append-nil new) (take_all len new (omega arith))
+
+-- facts below a number are below a larger one
+pub unaries_below : (n m : ℕ) (unaries : List Unary) → n ≤ m → list_all (is_unary_below n) unaries ≡ true → list_all (is_unary_below m) unaries ≡ true
+unaries_below n m unaries le all =
+    weaker (is_unary_below n) (is_unary_below m) unaries
+    (λ u is. let parts = both (list_all (is_below n) u.conds) (is_below n u.gives) is in join (list_all (is_below m) u.conds) (is_below m u.gives) (weaker (is_below n) (is_below m) u.conds (λ c below. one c below) parts.0) (one u.gives parts.1)) all
+  where
+    one : (c : ℕ) → is_below n c ≡ true → is_below m c ≡ true
+    one c below = grind (arith, nat_tests, below)
+
+-- those without conditions need the fact that is always there, and no others do
+pub free_of_needs : (unaries : List Unary) (always : ℕ) (row : List ℕ) → list_all (is_unary_below always) unaries ≡ true → IsNeededBy unaries always always row → AreFree unaries row
+free_of_needs unaries always row below needs i u at = needs i u at ∙ by_conds u.conds (both (list_all (is_below always) u.conds) (is_below always u.gives) (list_all_get (is_unary_below always) unaries i u below at)).0
+  where
+    self : (n : ℕ) → nat_eq n n ≡ true
+    self n = grind (arith, nat_tests)
+
+    none_above : (conds : List ℕ) → list_all (is_below always) conds ≡ true → occurrences always conds ≡ 0
+    none_above [] all = refl
+    none_above (c ∷ conds) all =
+        let parts = both (is_below always c) (list_all (is_below always) conds) all in
+        let other : nat_eq always c ≡ false = grind (arith, nat_tests, parts.0) in
+        let here : one_if (nat_eq always c) ≡ 0 = ap one_if other in
+        let rest = none_above conds parts.1 in
+        omega arith
+
+    by_conds : (conds : List ℕ) → list_all (is_below always) conds ≡ true → occurrences always (needed always conds) ≡ 1 - length conds
+    by_conds [] all = ap (λ (b : Bool). one_if b + 0) (self always)
+    by_conds (c ∷ conds) all = let none = none_above (c ∷ conds) all in omega arith
+
+pub long_lists : (n : ℕ) → length {A = List ℕ} (replicate n []) ≡ n
+long_lists zero = refl
+long_lists (suc n) = ap suc (long_lists n)

@@ -1,9 +1,12 @@
 pub mod Counting
+pub mod Exact
 pub mod Final
+pub mod Goals
 pub mod Growing
-pub mod Keeps
-pub mod Marking
-pub mod Measures
-pub mod Offering
-pub mod RowLaws
+pub mod Ordered
+pub mod Reaching
+pub mod Rounds
+pub mod Settled
+pub mod Starting
+pub mod Stepping
 pub mod Summing

@@ -1,5 +1,5 @@
 -- Laws of unary operators and of evaluated states, for those who build on the estimate.
-use Rattle.std.specs.Prelude.{◌≡◌, ℕ, zero, suc, List, Option, Some, None, slice_get, [], ◌∷◌, map, Bool, true, false, not, ◌&&◌, ◌||◌, ◌↔◌}
+use Rattle.std.specs.Prelude.{◌≡◌, ℕ, List, [], ◌∷◌, Bool, true, false, not, ◌&&◌, ◌||◌, ◌↔◌}
 use Rattle.std.specs.List.{list_all, list_any}
 use Rattle.std.proofs.Common.{refl, sym, ap, ◌∙◌}
 use Rattle.lama_num.specs.Estimates.{estimate_sum}
@@ -10,16 +10,13 @@ use Rattle.sas_task.specs.WellFormed.{IsWellFormed, is_fact}
 use Rattle.sas_task.specs.declared.contents.CostKind.{CostKind}
 use Rattle.sas_task.specs.declared.contents.Fact.{Fact}
 use Rattle.sas_task.specs.declared.contents.Parts.{Parts}
-use Rattle.relaxed_task.specs.NumberLaws.{cost_of_fact}
-use Rattle.relaxed_task.specs.NumberLaws.{any_of_facts}
+use Rattle.relaxed_task.specs.NumberLaws.{cost_of_fact, any_of_facts}
 use Rattle.relaxed_task.specs.ReachLaws.{dead_exactly}
 use Rattle.relaxed_task.specs.declared.relaxation.Lists.{Lists}
-use Rattle.relaxed_task.specs.declared.unary.Unary.{Unary}
 use Rattle.relaxed_task.specs.Estimates.{is_finite}
-use Rattle.relaxed_task.specs.Numbers.{number_of, numbers_of}
+use Rattle.relaxed_task.specs.Numbers.{number_of, numbers_of, costs_by}
 use Rattle.relaxed_task.specs.Reached.{IsDead}
 use Rattle.relaxed_task.specs.Relaxations.{IsRelaxed}
-use Rattle.relaxed_task.specs.Numbers.{costs_by}
 use Rattle.relaxed_task.specs.Relaxing.{sum_of as total}
 use Rattle.h_add.specs.Values.{value_at, IsEvaluated, IsEvaluatedByNumber}
 
@@ -72,7 +69,7 @@ sum_infinite (Finite a) (Finite b) = refl
 sum_infinite (Finite a) Infinite = refl
 sum_infinite Infinite b = refl
 
-total_finite : (value : ℕ → Estimate) (facts : List ℕ) → is_finite (total value facts) ≡ not (list_any (λ fact. not (is_finite (value fact))) facts)
+pub total_finite : (value : ℕ → Estimate) (facts : List ℕ) → is_finite (total value facts) ≡ not (list_any (λ fact. not (is_finite (value fact))) facts)
 total_finite value [] = refl
 total_finite value (fact ∷ facts) = sum_infinite (value fact) (total value facts) ∙ by_test (is_finite (value fact)) (total_finite value facts)
   where
@@ -99,17 +96,3 @@ sum_infinite_if_dead parts kind relaxed state costs sum is evaluated sums = (
     infinite_one : (e : Estimate) → is_finite e ≡ false → e ≡ Infinite
     infinite_one (Finite a) h = let k : true ≡ false = h in cc
     infinite_one Infinite h = refl
-
--- the unary operator at a place, by what it gives
-pub record UnaryAt (unaries : List Unary) (place fact : ℕ) : Type 0 where
-  pub unary : Unary
-  pub at : slice_get unaries place ≡ Some unary
-  pub gives : fact ≡ unary.gives
-
-pub unary_at : (unaries : List Unary) (gives : List ℕ) (place fact : ℕ) → gives ≡ map (λ u. u.gives) unaries → slice_get gives place ≡ Some fact → UnaryAt unaries place fact
-unary_at unaries gives place fact is at = found unaries place (rw is at at)
-  where
-    found : (unaries : List Unary) (i : ℕ) → slice_get (map (λ u. u.gives) unaries) i ≡ Some fact → UnaryAt unaries i fact
-    found [] i at = let k : ◌≡◌ {A = Option ℕ} None (Some fact) = at in cc
-    found (u ∷ unaries) zero at = let k : Some u.gives ≡ Some fact = at in record { unary = u; at = refl; gives = cc }
-    found (u ∷ unaries) (suc i) at = let r = found unaries i at in record { unary = r.unary; at = r.at; gives = r.gives }

@@ -1,13 +1,10 @@
 pub mod ByNumber
-pub mod Costings
-pub mod Counts
 pub mod Laws
 pub mod Listings
-pub mod Marks
-pub mod Occurrences
-pub mod Queues
+pub mod Networks
+pub mod Orders
 pub mod Ready
-pub mod Rows
+pub mod Settlements
 pub mod Tables
 pub mod UnderWay
 pub mod Values

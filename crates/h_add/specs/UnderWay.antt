@@ -1,46 +1,107 @@
--- Between the start and the last costs.
-use Rattle.relaxed_task.specs.Numbers.{over_numbers}
-use Rattle.std.specs.Prelude.{◌≡◌, ℕ, ◌+◌, ◌*◌, List, [], ◌∷◌, Bool, true, false, not, ◌&&◌, ◌⊎◌, slice_get, slice_index_or, Some}
-use Rattle.std.specs.List.{list_all}
-use Rattle.lama_num.specs.declared.estimates.Estimate.{Estimate}
-use Rattle.lama_num.specs.declared.estimates.Estimate.TheVariants.{Finite}
+-- What is true of an evaluation under way.
+use Rattle.std.specs.Prelude.{◌≡◌, ℕ, ◌+◌, ◌*◌, ◌≤◌, ◌<◌, List, [], ◌∷◌, ◌++◌, length, map, min, Bool, true, false, not, ◌&&◌, ◌⊎◌, slice_get, slice_set, Option, Some}
+use Rattle.cost_queue.specs.Occurrences.{one_if, occurrences}
+use Rattle.cost_queue.specs.Queues.{price_of, waiting_count, IsIdle}
 use Rattle.relaxed_task.specs.declared.unary.Unary.{Unary}
-use Rattle.relaxed_task.specs.Estimates.{is_finite, IsAtMost}
 use Rattle.relaxed_task.specs.Numbers.{is_among}
-use Rattle.h_add.specs.ByNumber.{is_started}
-use Rattle.h_add.specs.ByNumber.{price}
-use Rattle.relaxed_task.specs.CostLaws.{IsAttained}
-use Rattle.h_add.specs.Queues.{flags_set}
+use Rattle.h_add.specs.ByNumber.{IsInOrder, IsAttained}
+use Rattle.h_add.specs.Networks.{open_at_start}
+use Rattle.h_add.specs.Orders.{chosen, given_by}
+use Rattle.h_add.specs.Settlements.{Settlement, cost_at, is_settled, is_reached, is_left_out, open_at, unsettled}
+use Rattle.h_add.specs.Values.{value_at}
 
--- a flag for each fact
-abbrev pub is_out : List Bool → ℕ → Bool
-is_out flags fact = slice_index_or flags fact false
+-- how many of some facts aren't reached
+abbrev pub unreached : (ℕ → Bool) → List ℕ → ℕ
+unreached reached [] = 0
+unreached reached (c ∷ conds) = one_if (not (reached c)) + unreached reached conds
 
--- the facts that are left out have their flags set, and no other
-abbrev pub IsOut : List ℕ → List Bool → Type 0
-IsOut without out = (fact : ℕ) → is_out out fact ≡ is_among without fact
+-- what those cost that are reached
+abbrev pub paid : (ℕ → Bool) → (ℕ → ℕ) → List ℕ → ℕ
+paid reached cost [] = 0
+paid reached cost (c ∷ conds) = one_if (reached c) * cost c + paid reached cost conds
 
--- a fact was looked at with the cost that it has now
-abbrev pub is_done : (ℕ → Estimate) → (ℕ → Bool) → ℕ → Bool
-is_done v waiting fact = is_finite (v fact) && not (waiting fact)
+-- A unary operator has counted the conditions that are reached, but for those that are owed at a cost. One that has none open has offered
+-- what it gives.
+pub record IsCounted (t : Settlement) (level : ℕ) (owed : List ℕ) (place : ℕ) (u : Unary) : Type 0 where
+  pub count : (open_at t place).count ≡ unreached (is_reached t) u.conds + occurrences place owed
+  pub sum : min ((open_at t place).sum + occurrences place owed * level) 1000000000 ≡ min (u.cost + paid (is_reached t) (cost_at t) u.conds) 1000000000
+  pub small : (open_at t place).sum ≤ 1000000000
+  pub offered : (open_at t place).count ≡ 0 → is_left_out t u.gives ≡ false → cost_at t u.gives ≤ (open_at t place).sum
 
--- A unary operator whose conditions are done gives its fact for no less than the fact costs, but for some that are owed, and for what is left out.
-abbrev pub Owes : List Unary → List ℕ → (ℕ → Estimate) → (ℕ → Bool) → List ℕ → Type 0
-Owes unaries without v waiting owed =
-    (i : ℕ) (u : Unary) → slice_get unaries i ≡ Some u → is_among without u.gives ≡ false → list_all (is_done v waiting) u.conds ≡ true →
-    IsAtMost (v u.gives) (price v u) ⊎ (is_among owed i ≡ true)
+-- who waits has no open condition, and waits for its price
+pub record IsWaiting (t : Settlement) (level place price : ℕ) : Type 0 where
+  pub none_open : (open_at t place).count ≡ 0
+  pub price_is : price ≡ (open_at t place).sum
+  pub above : level ≤ price
 
--- the costs are those of some order so far
-pub record IsUnderWay (unaries : List Unary) (start without : List ℕ) (v : ℕ → Estimate) (waiting : ℕ → Bool) (owed : List ℕ) : Type 0 where
-  pub first : (fact : ℕ) → is_started start without fact ≡ true → v fact ≡ Finite 0
-  pub attained : IsAttained over_numbers unaries start without v
-  pub owes : Owes unaries without v waiting owed
+-- a unary operator waits that gives a fact for what it costs
+pub record IsWanted (unaries : List Unary) (t : Settlement) (fact : ℕ) : Type 0 where
+  pub place : ℕ
+  pub unary : Unary
+  pub at : slice_get unaries place ≡ Some unary
+  pub gives : unary.gives ≡ fact
+  pub waits : price_of t.waiting place ≡ Some (cost_at t fact)
 
--- the sum of kept costs
-abbrev pub sum_of : List ℕ → ℕ
-sum_of [] = 0
-sum_of (cost ∷ costs) = cost + sum_of costs
+-- a unary operator that settled a fact gives it for what it costs
+pub record HasSettled (unaries : List Unary) (t : Settlement) (place : ℕ) : Type 0 where
+  pub unary : Unary
+  pub at : slice_get unaries place ≡ Some unary
+  pub none_open : (open_at t place).count ≡ 0
+  pub reached : is_reached t unary.gives ≡ true
+  pub pays : cost_at t unary.gives ≡ (open_at t place).sum
 
--- what is left to do: it falls with each fact that is looked at
-abbrev pub left_to_do : List ℕ → List Bool → ℕ
-left_to_do costs flags = 2 * sum_of costs + flags_set flags
+-- Facts that are settled cost at most so much, and those that wait at least. Some unary operators have still to count a fact of that cost.
+pub record IsUnderWay (unaries : List Unary) (level : ℕ) (owed : List ℕ) (t : Settlement) : Type 0 where
+  pub level_small : level ≤ 1000000000
+  pub opens_long : length t.opens ≡ length unaries
+  pub each : (place : ℕ) (u : Unary) → slice_get unaries place ≡ Some u → IsCounted t level owed place u
+  pub waits : (place price : ℕ) → price_of t.waiting place ≡ Some price → IsWaiting t level place price
+  pub wanted : (fact : ℕ) → is_settled t fact ≡ false → cost_at t fact ≤ 1000000000 → IsWanted unaries t fact
+  pub low : (fact : ℕ) → is_reached t fact ≡ true → cost_at t fact ≤ level
+  pub settled_by : (place : ℕ) → is_among t.order place ≡ true → HasSettled unaries t place
+
+-- some have still to count a fact, among them that at a place
+pub record Owes (unaries : List Unary) (level place : ℕ) (t : Settlement) : Type 0 where
+  pub owed : List ℕ
+  pub way : IsUnderWay unaries level (place ∷ owed) t
+
+-- with nothing owed
+pub record IsSettling (unaries : List Unary) (t : Settlement) : Type 0 where
+  pub level : ℕ
+  pub way : IsUnderWay unaries level [] t
+
+-- No fact is reached: those that are settled are left out.
+pub record IsFresh (unaries : List Unary) (t : Settlement) : Type 0 where
+  pub costs : (fact : ℕ) → 1000000000 < cost_at t fact
+  pub opens : t.opens ≡ map open_at_start unaries
+  pub idle : IsIdle t.waiting
+  pub order : t.order ≡ []
+
+-- the facts that are left out are settled with nothing given, and no others
+abbrev pub IsOut : List ℕ → Settlement → Type 0
+IsOut without t = (fact : ℕ) → is_left_out t fact ≡ is_among without fact
+
+-- from the facts of a start, of which some are reached so far, and some by the order
+pub record IsFrom (unaries : List Unary) (start without had : List ℕ) (t : Settlement) : Type 0 where
+  pub out : IsOut without t
+  pub attained : IsAttained unaries start without (value_at t.costs)
+  pub reached : (fact : ℕ) → is_reached t fact ≡ (is_among (had ++ given_by (chosen unaries t.order)) fact && not (is_among without fact))
+  pub first : (fact : ℕ) → is_among had fact ≡ true → is_among without fact ≡ false → cost_at t fact ≡ 0
+  pub in_order : IsInOrder had (chosen unaries t.order)
+
+-- some unary operators counted a fact
+pub record HasCounted (unaries : List Unary) (old new : Settlement) : Type 0 where
+  pub settled : new.settled ≡ old.settled
+  pub order : new.order ≡ old.order
+  pub costs_long : length new.costs ≡ length old.costs
+  pub waiting_long : length new.waiting ≡ length old.waiting
+  pub kept : (fact : ℕ) → is_settled old fact ≡ true → cost_at new fact ≡ cost_at old fact
+  pub attained : (start without : List ℕ) → IsOut without old → IsAttained unaries start without (value_at old.costs) → IsAttained unaries start without (value_at new.costs)
+
+-- what is left to do: it falls with each unary operator that is taken
+abbrev pub left_to_do : Settlement → ℕ
+left_to_do t = unsettled t.settled * (length t.waiting + 1) + waiting_count t.waiting
+
+-- some facts are settled, or none waits
+abbrev pub AreSettled : List ℕ → Settlement → Type 0
+AreSettled facts t = ((fact : ℕ) → is_among facts fact ≡ true → is_settled t fact ≡ true) ⊎ IsIdle t.waiting

@@ -1,5 +1,5 @@
 // The evaluator.
-ghost use Rattle.std.specs.Prelude.{◌≡◌, [], ℕ, List, IfOk, IsTrue, ◌↔◌, Some, false, length};
+ghost use Rattle.std.specs.Prelude.{◌≡◌, [], ℕ, List, IfOk, IsTrue, ◌↔◌, Some, false, length, ◌≤◌};
 ghost use Rattle.std.specs.List.{list_all};
 ghost use Rattle.sas_task.specs.declared.contents.CostKind.{CostKind as TheKind};
 ghost use Rattle.sas_task.specs.declared.contents.Parts.{Parts};
@@ -8,17 +8,17 @@ ghost use Rattle.sas_task.specs.States.{IsState};
 ghost use Rattle.sas_task.specs.WellFormed.{is_fact};
 ghost use Rattle.sas_task.specs.declared.contents.Fact.{Fact as TheFact};
 ghost use Rattle.relaxed_task.specs.AdditiveCosts.{IsAdditiveCost, IsGoalValue};
+ghost use Rattle.relaxed_task.specs.Numbers.{numbers_of};
+ghost use Rattle.h_add.specs.ByNumber.{start_facts};
 ghost use Rattle.relaxed_task.specs.Estimates.{is_finite};
 ghost use Rattle.relaxed_task.specs.Reached.{IsDead, IsReached};
 ghost use Rattle.relaxed_task.specs.Relaxations.{IsRelaxed};
-ghost use Rattle.h_add.specs.Tables.{AreTablesOf, AreSound};
-ghost use Rattle.h_add.specs.Values.{value_at, IsEvaluated, IsEvaluatedByNumber};
+ghost use Rattle.h_add.specs.Orders.{IsOrder, are_places};
+ghost use Rattle.h_add.specs.Values.{value_at, IsEvaluated, IsEvaluatedByNumber, IsValueOfGoals};
 
-use crate::costs::Costs;
-use crate::evaluating::{some_infinite, value_of};
-use crate::open_conditions::OpenConditions;
-use crate::pricing::{estimate, total};
-use crate::tables::{Tables, tables_of};
+use crate::network::Network;
+use crate::settling::Settling;
+use crate::sums::{estimate, some_infinite, total, value_of};
 use lama_num::{Estimate, NoMemory};
 use relaxed_task::Relaxed;
 use sas_task::{CostKind, Fact, Task};
@@ -27,14 +27,17 @@ use std::marker::Model;
 
 /// The additive estimate of the states of one task.
 ///
-/// `value`, `goal_value` and `is_dead` speak of the state that was evaluated last. Only `new` takes
-/// memory.
-#[derive(Debug, Drop)]
+/// `value`, `goal_value`, `is_dead` and `order` speak of the state that was evaluated last. Only `new`
+/// takes memory.
+///
+/// The facts of the state are settled first, at no cost, and then one after the other the cheapest of
+/// those that a unary operator with settled conditions gives: the generalized Dijkstra search of Liu,
+/// Koenig and Furcy, "Speeding up the calculation of heuristics for heuristic search-based planning"
+/// (2002).
+#[derive(Drop)]
 pub struct Add {
-    relaxed: Relaxed,
-    tables: Tables,
-    costs: Costs,
-    conditions: OpenConditions,
+    network: Network,
+    settling: Settling,
 }
 
 impl Model for Add {
@@ -43,9 +46,9 @@ impl Model for Add {
 
     ghost Value = { Evaluator };
 
-    ghost view = { λ a. record { relaxed = a.relaxed; costs = a.costs.costs } };
+    ghost view = { λ a. record { relaxed = a.network; costs = a.settling.costs; order = a.settling.order } };
 
-    ghost invariant = { λ a. IsReady a.relaxed a.tables a.costs a.conditions };
+    ghost invariant = { λ a. IsReady a.network a.settling };
 }
 
 /// The evaluator over a relaxation.
@@ -53,15 +56,10 @@ fn evaluator(alloc: Global, relaxed: Relaxed) -> Result<Add, NoMemory>
     ensures { IfOk result (λ add. add.relaxed ≡ relaxed) }
 {
     let facts = relaxed.facts() as usize;
-    let tables = tables_of(alloc, relaxed.unary(), facts)?;
-    let costs = Costs::new(alloc, facts, tables.gives.len().saturating_add(facts))?;
-    let conditions = OpenConditions::new(alloc, tables.gives.len(), facts)?;
-    Ok(Add {
-        relaxed,
-        tables,
-        costs,
-        conditions,
-    })
+    let unaries = relaxed.unary().len();
+    let network = Network::new(alloc, relaxed)?;
+    let settling = Settling::new(alloc, facts, unaries)?;
+    Ok(Add { network, settling })
 }
 
 impl Add {
@@ -77,15 +75,7 @@ impl Add {
     pub fn relaxed(&self) -> &Relaxed
         ensures { result.now ≡ self.now.relaxed }
     {
-        &self.relaxed
-    }
-
-    /// The unary operators in flat tables, for loops over them.
-    pub fn tables(&self) -> &Tables
-        ensures tables { AreTablesOf self.now.relaxed.unaries result.now }
-        ensures sound { AreSound result.now self.now.relaxed.facts }
-    {
-        &self.tables
+        self.network.relaxed()
     }
 
     /// Evaluates a state, which has one value for each variable.
@@ -95,9 +85,10 @@ impl Add {
             IsEvaluated parts kind state.now [] self.new.costs }
         ensures numbers { (parts : Parts) (kind : TheKind) → IsRelaxed parts kind self.old.relaxed → IsState parts.variables state.now →
             IsEvaluatedByNumber parts kind state.now [] self.new.costs }
+        ensures order { (parts : Parts) (kind : TheKind) → IsRelaxed parts kind self.old.relaxed → IsState parts.variables state.now →
+            IsOrder self.new.relaxed.unaries (start_facts parts state.now) (value_at self.new.costs) self.new.order }
     {
-        self.costs
-            .evaluate(&self.relaxed, &self.tables, state, &mut self.conditions);
+        self.settling.evaluate(&self.network, state, &[]);
     }
 
     /// Evaluates a state without some facts: they are neither among those that are reached at first,
@@ -107,14 +98,26 @@ impl Add {
         ensures costs { (parts : Parts) (kind : TheKind) → IsRelaxed parts kind self.old.relaxed → IsState parts.variables state.now →
             IsTrue (list_all (is_fact parts.variables) excluded.now) →
             IsEvaluated parts kind state.now excluded.now self.new.costs }
+        ensures numbers { (parts : Parts) (kind : TheKind) → IsRelaxed parts kind self.old.relaxed → IsState parts.variables state.now →
+            IsTrue (list_all (is_fact parts.variables) excluded.now) →
+            IsEvaluatedByNumber parts kind state.now (numbers_of parts.variables excluded.now) self.new.costs }
     {
-        self.costs.evaluate_without(
-            &self.relaxed,
-            &self.tables,
-            state,
-            excluded,
-            &mut self.conditions,
-        );
+        self.settling.evaluate(&self.network, state, excluded);
+    }
+
+    /// The value of a state alone: the sum of what the goal facts cost, each once.
+    ///
+    /// It stops where all goal facts are settled, so that what other facts cost isn't known
+    /// afterwards.
+    pub fn evaluate_goal(&mut self, state: &[u32]) -> Estimate
+        ensures task { self.new.relaxed ≡ self.old.relaxed }
+        ensures value { (parts : Parts) (kind : TheKind) → IsRelaxed parts kind self.old.relaxed → IsState parts.variables state.now →
+            IsValueOfGoals parts kind state.now result }
+        ensures dead { (parts : Parts) (kind : TheKind) → IsRelaxed parts kind self.old.relaxed → IsState parts.variables state.now →
+            ((result ≡ Estimate.Infinite) ↔ IsDead parts state.now) }
+    {
+        self.settling.evaluate_goals(&self.network, state);
+        estimate(total(self.settling.costs(), self.network.relaxed().goals()))
     }
 
     /// What a fact costs.
@@ -126,8 +129,8 @@ impl Add {
             IsEvaluated parts kind state without self.now.costs → IsTrue (is_fact parts.variables fact) →
             (IsTrue (is_finite result) ↔ IsReached parts state without fact) }
     {
-        let number = self.relaxed.number(fact.var as usize, fact.val);
-        value_of(self.costs.as_slice(), number)
+        let number = self.network.relaxed().number(fact.var as usize, fact.val);
+        value_of(self.settling.costs(), number)
     }
 
     /// What the facts cost, by their numbers in the relaxation. A cost above 1,000,000,000 is infinite.
@@ -135,7 +138,16 @@ impl Add {
         ensures costs { result.now ≡ self.now.costs }
         ensures long { length result.now ≡ self.now.relaxed.facts }
     {
-        self.costs.as_slice()
+        self.settling.costs()
+    }
+
+    /// The unary operators that settled a fact, by their places in the relaxation, in order.
+    pub fn order(&self) -> &[u32]
+        ensures order { result.now ≡ self.now.order }
+        ensures places { IsTrue (are_places (length self.now.relaxed.unaries) result.now) }
+        ensures few { length result.now ≤ self.now.relaxed.facts }
+    {
+        self.settling.order()
     }
 
     /// The sum of what the goal facts cost, each once. It is finite where all of them are reached, and
@@ -146,7 +158,7 @@ impl Add {
         ensures dead { (parts : Parts) (kind : TheKind) (state : List ℕ) → IsRelaxed parts kind self.now.relaxed →
             IsEvaluated parts kind state [] self.now.costs → ((result ≡ Estimate.Infinite) ↔ IsDead parts state) }
     {
-        estimate(total(self.costs.as_slice(), self.relaxed.goals()))
+        estimate(total(self.settling.costs(), self.network.relaxed().goals()))
     }
 
     /// Whether some goal fact is never reached. Then no operators lead to a state where the goal holds.
@@ -156,6 +168,6 @@ impl Add {
         ensures safe { (parts : Parts) (kind : TheKind) (state ops last : List ℕ) → IsRelaxed parts kind self.now.relaxed →
             IsEvaluated parts kind state [] self.now.costs → IsTrue result → end_of parts state ops ≡ Some last → is_goal parts last ≡ false }
     {
-        some_infinite(self.costs.as_slice(), self.relaxed.goals())
+        some_infinite(self.settling.costs(), self.network.relaxed().goals())
     }
 }

@@ -1,22 +1,15 @@
 //! The additive estimate of a state, and whether a state is dead.
 //!
 //! `specs/Values` has what callers need: what contracts see of an evaluator, and what it means that
-//! a state was evaluated.
+//! a state was evaluated; `specs/Orders` says what the order of supporters is.
 #![tactic(auto)]
 
 mod add;
-mod costs;
 mod evaluating;
-mod look;
+mod marking;
 mod needs;
-mod offers;
-mod open_conditions;
-mod pricing;
-mod queue;
-mod rows;
-mod tables;
+mod network;
+mod settling;
+mod sums;
 
 pub use add::Add;
-pub use open_conditions::OpenConditions;
-pub use rows::{Rows, Span};
-pub use tables::Tables;

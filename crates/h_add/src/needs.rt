@@ -1,13 +1,12 @@
-// For each fact the unary operators that have it among their conditions.
-ghost use Rattle.std.specs.Prelude.{◌≡◌, ◌<◌, ◌^◌, ◌∷◌, ◌++◌, ℕ, List, length, IfOk, OnOk, IsTrue, true, slice_set, [], replicate};
+// For each fact the unary operators that need it.
+ghost use Rattle.std.specs.Prelude.{◌≡◌, ◌+◌, ◌<◌, ◌^◌, ◌∷◌, ◌++◌, ℕ, List, length, IfOk, OnOk, IsTrue, true, slice_set, [], replicate};
 ghost use Rattle.std.specs.List.{list_all};
+ghost use Rattle.lama_num.specs.Rows.{row_at};
 ghost use Rattle.relaxed_task.specs.Numbers.{is_unary_below};
-ghost use Rattle.h_add.specs.Rows.{row_at};
-ghost use Rattle.h_add.specs.Tables.{IsNeeds, are_within, are_below};
-ghost use Rattle.h_add.specs.Listings.{Lists};
+ghost use Rattle.h_add.specs.Networks.{IsNeeds, are_within, are_below, needed};
+ghost use Rattle.h_add.specs.Listings.{Listed};
 
-use crate::rows::Rows;
-use lama_num::{NoMemory, Seq};
+use lama_num::{NoMemory, Rows, Seq};
 use relaxed_task::Unary;
 use std::alloc::{AllocError, Global};
 
@@ -22,7 +21,7 @@ fn add_to(lists: &mut [Seq<u32>], fact: usize, place: u32) -> Result<(), AllocEr
 /// Adds a place to the list of each of some facts.
 fn add_to_all(lists: &mut [Seq<u32>], facts: &[u32], place: u32) -> Result<(), AllocError>
     requires { IsTrue (are_below (length lists.old) facts.now) }
-    ensures { OnOk result (Lists lists.old lists.new facts.now place) }
+    ensures { OnOk result (Listed lists.old lists.new facts.now place) }
 {
     for fact in facts {
         match add_to(lists, *fact as usize, place) {
@@ -43,16 +42,36 @@ fn no_lists(alloc: Global, facts: usize) -> Result<Vec<Seq<u32>>, AllocError>
     Ok(lists)
 }
 
-/// Adds each unary operator to the lists of its conditions.
-fn add_each(lists: &mut [Seq<u32>], unaries: &[Unary]) -> Result<(), AllocError>
+/// Adds a unary operator to the lists of what it needs: its conditions, or where it has none the fact
+/// that is always there.
+fn add_needs(
+    lists: &mut [Seq<u32>],
+    unary: &Unary,
+    always: u32,
+    place: u32,
+) -> Result<(), AllocError>
+    requires always { always < length lists.old }
+    requires facts { IsTrue (are_below (length lists.old) unary.now.conds) }
+    ensures { OnOk result (Listed lists.old lists.new (needed always unary.now.conds) place) }
+{
+    if unary.conds.is_empty() {
+        add_to_all(lists, &[always], place)
+    } else {
+        add_to_all(lists, &unary.conds, place)
+    }
+}
+
+/// Adds each unary operator to the lists of what it needs.
+fn add_each(lists: &mut [Seq<u32>], unaries: &[Unary], always: u32) -> Result<(), AllocError>
     requires few { length unaries.now < 2 ^ 32 }
+    requires always { always < length lists.old }
     requires facts { IsTrue (list_all (is_unary_below (length lists.old)) unaries.now) }
-    ensures needs { OnOk result (((fact : ℕ) → row_at lists.old fact ≡ []) → IsNeeds unaries.now lists.new) }
+    ensures needs { OnOk result (((fact : ℕ) → row_at lists.old fact ≡ []) → IsNeeds unaries.now always lists.new) }
     ensures within { OnOk result (list_all (are_within (length unaries.now)) lists.old ≡ true → list_all (are_within (length unaries.now)) lists.new ≡ true) }
     ensures long { length lists.new ≡ length lists.old }
 {
     for (i, unary) in unaries.iter().enumerate() {
-        match add_to_all(lists, &unary.conds, i as u32) {
+        match add_needs(lists, unary, always, i as u32) {
             Ok(()) => {}
             Err(e) => return Err(e),
         }
@@ -60,28 +79,16 @@ fn add_each(lists: &mut [Seq<u32>], unaries: &[Unary]) -> Result<(), AllocError>
     Ok(())
 }
 
-fn rows_of(alloc: Global, lists: &[Seq<u32>]) -> Result<Rows, NoMemory>
-    ensures { IfOk result (λ rows. rows ≡ lists.now) }
-{
-    let mut rows = Rows::new(alloc);
-    for list in lists {
-        match rows.push(list) {
-            Ok(()) => {}
-            Err(e) => return Err(e),
-        }
-    }
-    Ok(rows)
-}
-
-/// The rows of the facts.
-pub fn needs_of(alloc: Global, unaries: &[Unary], facts: usize) -> Result<Rows, NoMemory>
+/// The rows of so many facts, and behind them that of a fact which is always there: unary operators
+/// without conditions need it.
+pub fn needs_of(alloc: Global, unaries: &[Unary], facts: u32) -> Result<Rows<u32>, NoMemory>
     requires few { length unaries.now < 2 ^ 32 }
     requires facts { IsTrue (list_all (is_unary_below facts) unaries.now) }
-    ensures needs { IfOk result (λ rows. IsNeeds unaries.now rows) }
-    ensures long { IfOk result (λ rows. length rows ≡ facts) }
+    ensures needs { IfOk result (λ rows. IsNeeds unaries.now facts rows) }
+    ensures long { IfOk result (λ rows. length rows ≡ facts + 1) }
     ensures within { IfOk result (λ rows. IsTrue (list_all (are_within (length unaries.now)) rows)) }
 {
-    let mut lists = no_lists(alloc, facts)?;
-    add_each(&mut lists, unaries)?;
-    rows_of(alloc, &lists)
+    let mut lists = no_lists(alloc, facts as usize + 1)?;
+    add_each(&mut lists, unaries, facts)?;
+    Rows::from_lists(alloc, &lists)
 }

@@ -9,8 +9,9 @@ use Rattle.std.proofs.lemmas.List.{reverse-append}
 use Rattle.h_ff.proofs.Grows.{chosen_grows}
 use Rattle.relaxed_task.specs.Relaxing.{kept}
 use Rattle.relaxed_task.specs.Elements.{drop_within}
-use Rattle.h_ff.specs.Best.{is_given}
-use Rattle.h_ff.specs.Orders.{chosen, AreMarked, kept_places}
+use Rattle.h_ff.specs.Flags.{is_given}
+use Rattle.h_ff.specs.Orders.{AreMarked, kept_places}
+use Rattle.h_add.specs.Orders.{chosen}
 
 marks_kept : (unaries : List Unary) (goals rest : List ℕ) (marks now : List Bool) (place : ℕ) (u : Unary) → slice_get unaries place ≡ Some u → is_given marks u.gives ≡ true → AreMarked unaries goals rest marks →
     ((fact : ℕ) → is_given now fact ≡ (is_among u.conds fact || is_given marks fact)) → AreMarked unaries goals (place ∷ rest) now

@@ -1,10 +1,6 @@
-pub mod Bests
 pub mod Grows
 pub mod Keeping
 pub mod Lists
-pub mod Looking
-pub mod Ordering
+pub mod Marks
 pub mod Planning
-pub mod Rooms
-pub mod Starts
 pub mod UsedOperators

@@ -4,11 +4,9 @@ use Rattle.std.specs.List.{list_all}
 use Rattle.std.proofs.lemmas.Bool.Decides.{nat_tests}
 use Rattle.std.proofs.lemmas.Option.{slice_get-get_or}
 use Rattle.std.proofs.lemmas.List.{get_or_default}
-use Rattle.relaxed_task.specs.declared.unary.Unary.{Unary}
-use Rattle.relaxed_task.specs.Numbers.{is_below, is_unary_below}
-use Rattle.h_ff.specs.Orders.{are_places}
+use Rattle.relaxed_task.specs.Numbers.{is_below}
+use Rattle.h_add.specs.Orders.{are_places}
 use Rattle.lama_num.specs.Lists.{both, list_all_get}
-use Rattle.h_add.specs.Laws.{unary_at}
 
 pub at_place : {X : Type 0} (xs : List X) (i : ℕ) (x : X) → i < length xs → x ≡ get_or xs i x → slice_get xs i ≡ Some x
 at_place xs i x lt is = slice_get-get_or xs i x lt ∙ ap (λ (y : _). Some y) (sym is)
@@ -17,11 +15,6 @@ pub all_at : {X : Type 0} (p : X → Bool) (xs : List X) (i : ℕ) (x : X) → l
 all_at p [] i x all lt at = absurd (omega arith)
 all_at p (y ∷ ys) zero x all lt at = rw at (both (p y) (list_all p ys) all).0
 all_at p (y ∷ ys) (suc i) x all lt at = all_at p ys i x (both (p y) (list_all p ys) all).1 (omega arith) at
-
-pub gives_below : (n : ℕ) (unaries : List Unary) (i : ℕ) (u : Unary) → list_all (is_unary_below n) unaries ≡ true → i < length unaries → u ≡ get_or unaries i u → u.gives < n
-gives_below n unaries i u all lt at =
-    let here = both (list_all (is_below n) u.conds) (is_below n u.gives) (all_at (is_unary_below n) unaries i u all lt at) in
-    grind (arith, nat_tests, here.1)
 
 pub below_at : (n : ℕ) (facts : List ℕ) (i x : ℕ) → list_all (is_below n) facts ≡ true → i < length facts → x ≡ get_or facts i 0 → x < n
 below_at n facts i x all lt at =
@@ -32,14 +25,3 @@ pub place_at : (n : ℕ) (order : List ℕ) (i x : ℕ) → are_places n order �
 place_at n order i x all lt at =
     let here : nat_lt x n ≡ true = all_at (λ k. nat_lt k n) order i x all lt (at ∙ get_or_default order i 0 x lt) in
     grind (arith, nat_tests, here)
-
-pub below_get : (n : ℕ) (facts : List ℕ) (i x : ℕ) → list_all (is_below n) facts ≡ true → slice_get facts i ≡ Some x → x < n
-below_get n facts i x all at = let h : nat_lt x n ≡ true = list_all_get (is_below n) facts i x all at in grind (arith, nat_tests, h)
-
--- what the unary operator at a place gives
-pub gives_at : (unaries : List Unary) (gives : List ℕ) (i x : ℕ) (u : Unary) → gives ≡ map (λ u. u.gives) unaries → slice_get gives i ≡ Some x → slice_get unaries i ≡ Some u → x ≡ u.gives
-gives_at unaries gives i x u is at here =
-    let there = unary_at unaries gives i x is at in
-    let k : Some there.unary ≡ Some u = sym there.at ∙ here in
-    let same : there.unary ≡ u = cc in
-    there.gives ∙ ap (λ (y : Unary). y.gives) same

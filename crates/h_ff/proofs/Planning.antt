@@ -7,7 +7,6 @@ use Rattle.sas_task.specs.declared.contents.Variable.{Variable}
 use Rattle.lama_num.specs.declared.estimates.Estimate.{Estimate}
 use Rattle.relaxed_task.specs.declared.relaxation.Lists.{Lists}
 use Rattle.relaxed_task.specs.declared.unary.Unary.{Unary}
-use Rattle.relaxed_task.specs.Estimates.{IsLeast}
 use Rattle.relaxed_task.specs.Numbers.{numbers_of}
 use Rattle.relaxed_task.specs.Numbers.{by_number, numbered_unaries}
 use Rattle.relaxed_task.specs.Facts.{UnaryOperator, distinct_facts}
@@ -18,13 +17,13 @@ use Rattle.relaxed_task.specs.Relaxations.{IsRelaxed}
 use Rattle.relaxed_task.specs.Relaxing.{kept}
 use Rattle.relaxed_task.specs.Relaxing.{IsSupported}
 use Rattle.relaxed_task.specs.Numbers.{costs_by}
-use Rattle.h_add.specs.ByNumber.{add_round}
 use Rattle.relaxed_task.specs.NumberLaws.{supported_by_facts}
 use Rattle.state_step.specs.Steps.{is_applicable}
 use Rattle.h_add.specs.Laws.{finite_if_alive}
-use Rattle.h_add.specs.Values.{value_at, IsEvaluated, IsEvaluatedByNumber}
-use Rattle.h_ff.specs.Best.{is_given, is_ready}
-use Rattle.h_ff.specs.Orders.{chosen, IsOrder, kept_places, is_needed, are_places, ops_of}
+use Rattle.h_add.specs.Values.{value_at, IsEvaluated}
+use Rattle.h_ff.specs.Flags.{is_given}
+use Rattle.h_ff.specs.Orders.{kept_places, is_needed, ops_of}
+use Rattle.h_add.specs.Orders.{chosen, are_places, IsOrder}
 use Rattle.h_ff.specs.RelaxedPlans.{operators_of, AreEachOnce, HasPlan, cost_of}
 use Rattle.h_ff.proofs.Grows.{plan_of_order}
 use Rattle.h_ff.proofs.Keeping.{places_of_plan}
@@ -79,14 +78,13 @@ same_ops variables (u ∷ list) = by_op u.op refl (same_ops variables list)
     by_op (Some op) is rest = rw is (ap (λ (ops : List ℕ). op ∷ ops) rest)
 
 -- what FF answers where the state isn't dead
-pub has_plan : (parts : Parts) (kind : CostKind) (state costs : List ℕ) (lists : Lists) (given : List Bool) (order ops preferred : List ℕ) (value : ℕ) → IsRelaxed parts kind lists → IsEvaluated parts kind state [] costs → IsEvaluatedByNumber parts kind state [] costs → (IsDead parts state → ⊥) →
-    IsOrder lists.unaries (start_facts parts state) (value_at costs) given order → ((i : ℕ) (u : Unary) → slice_get lists.unaries i ≡ Some u → is_ready given (value_at costs) u ≡ false) →
-    AreEachOnce (ops_of (kept over_numbers lists.goals (chosen lists.unaries order))) ops → value ≡ cost_of parts kind ops → preferred ≡ filter (is_applicable parts state) ops → HasPlan parts kind state value ops preferred
-has_plan parts kind state costs lists given order ops preferred value is evaluated numbers alive ordered none operators cost applicable =
+pub has_plan : (parts : Parts) (kind : CostKind) (state costs : List ℕ) (lists : Lists) (order ops preferred : List ℕ) (value : ℕ) → IsRelaxed parts kind lists → IsEvaluated parts kind state [] costs → (IsDead parts state → ⊥) →
+    IsOrder lists.unaries (start_facts parts state) (value_at costs) order → AreEachOnce (ops_of (kept over_numbers lists.goals (chosen lists.unaries order))) ops → value ≡ cost_of parts kind ops →
+    preferred ≡ filter (is_applicable parts state) ops → HasPlan parts kind state value ops preferred
+has_plan parts kind state costs lists order ops preferred value is evaluated alive ordered operators cost applicable =
     let list : List Unary = kept over_numbers lists.goals (chosen lists.unaries order) in
     let finite = finite_if_alive parts kind lists state costs is evaluated alive in
-    let least = subst (λ (unaries : List Unary). (fact : ℕ) → IsLeast (λ n. add_round unaries (start_facts parts state) [] n fact) (value_at costs fact)) (sym is.unaries) numbers in
-    let by_numbers = plan_of_order lists.unaries (start_facts parts state) (value_at costs) given order lists.goals least ordered none finite in
+    let by_numbers = plan_of_order lists.unaries (start_facts parts state) (value_at costs) order lists.goals ordered finite in
     let named = supported_by_facts parts kind state (value_at costs) list is.well_formed evaluated.of_task
     (supported_as lists.unaries (numbered_unaries parts kind) lists.goals (numbers_of parts.variables (distinct_facts parts.goal)) (start_facts parts state) (value_at costs) list is.unaries is.goals by_numbers) in
     record {
@@ -97,6 +95,9 @@ has_plan parts kind state costs lists given order ops preferred value is evaluat
       cost = cost;
       applicable = applicable;
     }
+
+pub relaxed_as : (parts : Parts) (kind : CostKind) (lists shown : Lists) → shown ≡ lists → IsRelaxed parts kind lists → IsRelaxed parts kind shown
+relaxed_as parts kind lists shown same is = subst (λ (l : Lists). IsRelaxed parts kind l) (sym same) is
 
 -- the goal facts are marked at first
 pub marked_goals : (goals shown : List ℕ) (old new : List Bool) → shown ≡ goals → ((fact : ℕ) → is_given old fact ≡ false) → ((fact : ℕ) → is_given new fact ≡ (is_among shown fact || is_given old fact)) → (fact : ℕ) → is_given new fact ≡ is_among goals fact

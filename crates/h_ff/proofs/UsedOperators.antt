@@ -12,7 +12,8 @@ use Rattle.state_step.specs.Steps.{is_applicable}
 use Rattle.sas_task.specs.Laws.{operator-at}
 use Rattle.sas_task.specs.Within.{all_facts_within}
 use Rattle.relaxed_task.specs.declared.unary.Unary.{Unary}
-use Rattle.h_ff.specs.Orders.{chosen, ops_of}
+use Rattle.h_ff.specs.Orders.{ops_of}
+use Rattle.h_add.specs.Orders.{chosen}
 use Rattle.h_ff.proofs.Grows.{chosen_grows}
 
 -- one place more

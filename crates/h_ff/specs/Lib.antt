@@ -1,5 +1,4 @@
-pub mod Best
+pub mod Flags
 pub mod Orders
-pub mod Passes
 pub mod Ready
 pub mod RelaxedPlans

@@ -1,4 +1,4 @@
--- Best supporters one after another, and which of them are needed.
+-- Which best supporters of an order are needed.
 use Rattle.relaxed_task.specs.Numbers.{over_numbers}
 use Rattle.std.specs.Prelude.{◌≡◌, ℕ, List, [], ◌∷◌, ◌++◌, map, Bool, true, false, length, nat_lt, slice_get, Option, Some, None, if◌then◌else◌}
 use Rattle.std.specs.List.{list_all, filter_map}
@@ -7,28 +7,12 @@ use Rattle.relaxed_task.specs.declared.unary.Unary.{Unary}
 use Rattle.relaxed_task.specs.Numbers.{is_among}
 use Rattle.relaxed_task.specs.Relaxing.{IsInOrder, AreBest, asked}
 use Rattle.relaxed_task.specs.Relaxing.{kept}
-use Rattle.h_ff.specs.Best.{is_given}
-
--- the unary operators at some places
-abbrev pub chosen : List Unary → List ℕ → List Unary
-chosen unaries order = filter_map (λ i. slice_get unaries i) order
-
-abbrev pub are_places : ℕ → List ℕ → Bool
-are_places n order = list_all (λ i. nat_lt i n) order
+use Rattle.h_add.specs.Orders.{chosen}
+use Rattle.h_ff.specs.Flags.{is_given}
 
 -- their operators, one after the other; a rule has none
 abbrev pub ops_of : List Unary → List ℕ
 ops_of list = filter_map (λ u. u.op) list
-
-abbrev pub given_by : List Unary → List ℕ
-given_by list = map (λ u. u.gives) list
-
--- the places of best supporters in an order, with the facts that they and the start give
-pub record IsOrder (unaries : List Unary) (start : List ℕ) (costs : ℕ → Estimate) (given : List Bool) (order : List ℕ) : Type 0 where
-  pub places : are_places (length unaries) order ≡ true
-  pub best : AreBest over_numbers unaries costs (chosen unaries order)
-  pub in_order : IsInOrder over_numbers start (chosen unaries order)
-  pub given_is : (fact : ℕ) → is_given given fact ≡ is_among (start ++ given_by (chosen unaries order)) fact
 
 -- whether a unary operator at a place is needed
 abbrev pub is_needed : List Unary → List ℕ → ℕ → List ℕ → Bool
@@ -38,11 +22,11 @@ is_needed unaries goals i order = needed (slice_get unaries i)
     needed None = false
     needed (Some u) = is_among (asked over_numbers goals (kept over_numbers goals (chosen unaries order))) u.gives
 
--- the places of an order that are kept over_numbers, the last first
+-- the places of an order that are kept, the last first
 abbrev pub kept_places : List Unary → List ℕ → List ℕ → List ℕ
 kept_places unaries goals [] = []
 kept_places unaries goals (i ∷ order) = if is_needed unaries goals i order then kept_places unaries goals order ++ i ∷ [] else kept_places unaries goals order
 
--- what is marked: the goal facts and the conditions of what is kept over_numbers
+-- what is marked: the goal facts and the conditions of what is kept
 abbrev pub AreMarked : List Unary → List ℕ → List ℕ → List Bool → Type 0
 AreMarked unaries goals order marks = (fact : ℕ) → is_given marks fact ≡ is_among (asked over_numbers goals (kept over_numbers goals (chosen unaries order))) fact

@@ -3,12 +3,12 @@ ghost use Rattle.std.specs.Prelude.{◌≡◌, ℕ, List, [], length, false, Som
 ghost use Rattle.sas_task.specs.Runs.{end_of, is_goal};
 ghost use Rattle.sas_task.specs.States.{IsState};
 ghost use Rattle.relaxed_task.specs.Relaxations.{IsRelaxed};
+ghost use Rattle.h_add.specs.Values.{IsEvaluated};
 ghost use Rattle.h_ff.specs.RelaxedPlans.{IsFf};
 
 use crate::operators::cost;
-use crate::pass::Pass;
 use crate::plan::RelaxedPlan;
-use h_add::{Add, OpenConditions};
+use h_add::Add;
 use lama_num::{Estimate, NoMemory};
 use sas_task::{CostKind, Task};
 use std::alloc::Global;
@@ -18,18 +18,15 @@ use std::marker::Model;
 ///
 /// `relaxed_plan` and `preferred` speak of the state that was evaluated last. Only `new` takes memory.
 /// A relaxed plan is made from best supporters, unary operators that give a fact for what it costs by
-/// the additive estimate: facts are looked at in the order in which they are found, and each takes the
-/// supporter with the lowest number of those whose conditions were looked at before it.
+/// the additive estimate: those by which the facts were settled there, as far as they are needed.
 ///
 /// The estimate is that of Hoffmann and Nebel, "The FF planning system" (2001), with the supporters of
 /// the additive estimate as in Keyder and Geffner, "Heuristics for planning with action costs
 /// revisited" (2008).
-#[derive(Debug, Drop)]
+#[derive(Drop)]
 pub struct Ff {
     add: Add,
     kind: CostKind,
-    conditions: OpenConditions,
-    pass: Pass,
     plan: RelaxedPlan,
 }
 
@@ -38,26 +35,18 @@ impl Model for Ff {
 
     ghost Value = { Planner };
 
-    ghost view = { λ f. record { relaxed = f.add.relaxed; kind = f.kind; plan = f.plan.operators; preferred = f.plan.preferred } };
+    ghost view = { λ f. record { relaxed = f.add.relaxed; costs = f.add.costs; kind = f.kind; plan = f.plan.operators; preferred = f.plan.preferred } };
 
-    ghost invariant = { λ f. IsKept f.add.relaxed f.conditions f.pass f.plan };
+    ghost invariant = { λ f. IsKept f.add.relaxed f.plan };
 }
 
 /// The evaluator over an additive one.
 fn planner(alloc: Global, add: Add, kind: CostKind) -> Result<Ff, NoMemory>
-    ensures { IfOk result (λ ff. ff ≡ record { relaxed = add.relaxed; kind = kind; plan = []; preferred = [] }) }
+    ensures { IfOk result (λ ff. ff ≡ record { relaxed = add.relaxed; costs = add.costs; kind = kind; plan = []; preferred = [] }) }
 {
     let facts = add.relaxed().facts() as usize;
-    let conditions = OpenConditions::new(alloc, add.relaxed().unary().len(), facts)?;
-    let pass = Pass::new(alloc, facts)?;
     let plan = RelaxedPlan::new(alloc, facts)?;
-    Ok(Ff {
-        add,
-        kind,
-        conditions,
-        pass,
-        plan,
-    })
+    Ok(Ff { add, kind, plan })
 }
 
 impl Ff {
@@ -81,6 +70,8 @@ impl Ff {
         ensures kind { self.new.kind ≡ self.old.kind }
         ensures answer { IsRelaxed task.now self.old.kind self.old.relaxed → IsState task.now.variables state.now →
             IsFf task.now self.old.kind state.now result self.new.plan self.new.preferred }
+        ensures costs { IsRelaxed task.now self.old.kind self.old.relaxed → IsState task.now.variables state.now →
+            IsEvaluated task.now self.old.kind state.now [] self.new.costs }
         ensures safe { (ops last : List ℕ) → IsRelaxed task.now self.old.kind self.old.relaxed → IsState task.now.variables state.now →
             result ≡ Estimate.Infinite → end_of task.now state.now ops ≡ Some last → is_goal task.now last ≡ false }
     {
@@ -89,10 +80,18 @@ impl Ff {
         if self.add.is_dead() {
             return Estimate::Infinite;
         }
-        self.pass.order_best(&self.add, state, &mut self.conditions);
-        self.plan.find(self.add.relaxed(), self.pass.order());
+        self.plan.find(self.add.relaxed(), self.add.order());
         self.plan.prefer(task, state);
         Estimate::Finite(cost(task, self.kind, self.plan.operators()))
+    }
+
+    /// The additive estimate of the state that was evaluated last: a search with both guides evaluates a
+    /// state once.
+    pub fn additive(&self) -> &Add
+        ensures task { result.now.relaxed ≡ self.now.relaxed }
+        ensures costs { result.now.costs ≡ self.now.costs }
+    {
+        &self.add
     }
 
     /// The operators of the relaxed plan, ascending, each once; none where the state is dead.

@@ -3,7 +3,7 @@ ghost use Rattle.std.specs.Prelude.{◌≡◌, ◌<◌, ◌≤◌, ◌∷◌, �
 ghost use Rattle.std.specs.List.{list_all};
 ghost use Rattle.relaxed_task.specs.Numbers.{is_below};
 ghost use Rattle.relaxed_task.specs.Numbers.{is_among};
-ghost use Rattle.h_ff.specs.Best.{is_given, clear_flags};
+ghost use Rattle.h_ff.specs.Flags.{is_given};
 
 use std::alloc::{AllocError, Global};
 
@@ -14,36 +14,11 @@ pub fn no_flags(alloc: Global, count: usize) -> Result<Vec<bool>, AllocError>
     vec![in alloc; false; count]
 }
 
-/// So many numbers.
-pub fn zeros(alloc: Global, count: usize) -> Result<Vec<u32>, AllocError>
-    ensures { IfOk result (λ v. length v.items ≡ count) }
-{
-    vec![in alloc; 0; count]
-}
-
 pub fn flag(flags: &[bool], fact: u32) -> bool
     ensures { result ≡ is_given flags.now fact }
 {
     match flags.get(fact as usize) {
         Some(flag) => *flag,
-        None => false,
-    }
-}
-
-pub fn all_flagged(flags: &[bool], facts: &[u32]) -> bool
-    ensures { result ≡ list_all (is_given flags.now) facts.now }
-{
-    facts.iter().all(|fact| flag(flags, *fact))
-}
-
-/// Whether a fact is there and has no flag.
-pub fn is_new(flags: &[bool], fact: usize) -> bool
-    ensures there { result ≡ true → fact < length flags.now }
-    ensures clear { result ≡ true → is_given flags.now fact ≡ false }
-    ensures other { fact < length flags.now → result ≡ false → is_given flags.now fact ≡ true }
-{
-    match flags.get(fact) {
-        Some(flag) => !*flag,
         None => false,
     }
 }
@@ -60,8 +35,7 @@ pub fn flag_all(flags: &mut [bool], facts: &[u32])
 
 /// Takes back all flags.
 pub fn clear_all(flags: &mut [bool])
-    ensures flags { (fact : ℕ) → is_given flags.new fact ≡ false }
-    ensures count { clear_flags flags.new ≡ length flags.old }
+    ensures { (fact : ℕ) → is_given flags.new fact ≡ false }
 {
     flags.fill(false);
 }

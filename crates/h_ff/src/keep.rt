@@ -3,8 +3,9 @@ ghost use Rattle.std.specs.Prelude.{◌≡◌, ◌+◌, ◌<◌, ◌≤◌, [], 
 ghost use Rattle.std.specs.List.{list_all};
 ghost use Rattle.relaxed_task.specs.Numbers.{is_among};
 ghost use Rattle.relaxed_task.specs.Numbers.{is_unary_below};
-ghost use Rattle.h_ff.specs.Best.{is_given};
-ghost use Rattle.h_ff.specs.Orders.{AreMarked, kept_places, are_places};
+ghost use Rattle.h_ff.specs.Flags.{is_given};
+ghost use Rattle.h_ff.specs.Orders.{AreMarked, kept_places};
+ghost use Rattle.h_add.specs.Orders.{are_places};
 
 use crate::flags::{flag, flag_all, push_in};
 use relaxed_task::Unary;

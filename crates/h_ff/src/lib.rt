@@ -2,15 +2,10 @@
 //! applicable.
 #![tactic(auto)]
 
-mod best;
 mod ff;
 mod flags;
 mod keep;
-mod look;
-mod offers;
 mod operators;
-mod order;
-mod pass;
 mod plan;
 
 pub use ff::Ff;

@@ -2,7 +2,8 @@
 ghost use Rattle.std.specs.Prelude.{◌≡◌, ◌+◌, ◌<◌, ◌≤◌, ◌↔◌, ◌∷◌, ◌++◌, [], ℕ, Contains, filter, length, IsTrue, if◌then◌else◌, vec_len, vec_capacity};
 ghost use Rattle.std.specs.List.Sorted.{IsStrictlyIncreasing};
 ghost use Rattle.state_step.specs.Steps.{is_applicable as applicable};
-ghost use Rattle.h_ff.specs.Orders.{chosen, are_places, ops_of};
+ghost use Rattle.h_ff.specs.Orders.{ops_of};
+ghost use Rattle.h_add.specs.Orders.{chosen, are_places};
 ghost use Rattle.h_ff.specs.RelaxedPlans.{cost_of};
 
 use crate::flags::push_in;

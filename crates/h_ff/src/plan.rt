@@ -3,7 +3,8 @@ ghost use Rattle.relaxed_task.specs.Numbers.{over_numbers};
 ghost use Rattle.std.specs.Prelude.{◌≡◌, ◌≤◌, [], length, true, filter, IfOk, vec_len, vec_capacity};
 ghost use Rattle.relaxed_task.specs.Relaxing.{kept};
 ghost use Rattle.state_step.specs.Steps.{is_applicable};
-ghost use Rattle.h_ff.specs.Orders.{chosen, are_places, ops_of};
+ghost use Rattle.h_ff.specs.Orders.{ops_of};
+ghost use Rattle.h_add.specs.Orders.{chosen, are_places};
 ghost use Rattle.h_ff.specs.RelaxedPlans.{AreEachOnce};
 
 use crate::flags::{clear_all, flag_all, no_flags};

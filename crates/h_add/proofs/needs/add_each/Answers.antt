@@ -5,7 +5,7 @@ use Rattle.h_add.proofs.needs.add_each.Goals as goal
 pub loop-i-init : goal.loop-i-init
 loop-i-init c = record {
   long = refl;
-  needed = λ none. none_needed c.args.unaries.now _ none;
+  needed = λ none. none_needed c.args.unaries.now c.args.always _ none;
   within = λ all. all;
 }
 
@@ -14,9 +14,9 @@ loop-i-preserved c =
     let lt : c.loop-i.i < length c.args.unaries.now = omega arith in
     record {
       long = omega (arith, c.in-Ok.ensures.long);
-      needed = λ none. needed_more c.args.unaries.now c.loop-i.i c.index-unaries-i.result c.deref.result.now _ _ lt c.index-unaries-i.is c.deref.ensures c.in-Ok.ensures (c.loop-i.invariant.needed none);
+      needed = λ none. needed_more c.args.unaries.now c.args.always c.loop-i.i c.index-unaries-i.result _ _ lt c.index-unaries-i.is c.in-Ok.ensures (c.loop-i.invariant.needed none);
       within = λ all. c.in-Ok.ensures.within _ lt (c.loop-i.invariant.within all);
     }
 
 pub returns-clause-needs : goal.returns-clause-needs
-returns-clause-needs c none = all_needed c.args.unaries.now c.loop-i.i _ (omega arith) (c.loop-i.invariant.needed none)
+returns-clause-needs c none = all_needed c.args.unaries.now c.args.always c.loop-i.i _ (omega arith) (c.loop-i.invariant.needed none)

@@ -1,6 +1,6 @@
 use Rattle.std.proofs.Common.{◌≡◌, ◌+◌, ◌≤◌, ℕ, List, drop, vec_len, vec_capacity}
 use Rattle.relaxed_task.specs.Numbers.{is_among}
-use Rattle.h_ff.specs.Best.{is_given}
+use Rattle.h_ff.specs.Flags.{is_given}
 use Rattle.h_ff.specs.Orders.{AreMarked, kept_places}
 use Rattle.h_ff.proofs.keep.keep_needed.Given as goal
 

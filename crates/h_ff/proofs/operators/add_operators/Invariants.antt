@@ -1,5 +1,6 @@
 use Rattle.std.proofs.Common.{◌≡◌, ◌≤◌, length, take, vec_len, vec_capacity}
-use Rattle.h_ff.specs.Orders.{chosen, ops_of}
+use Rattle.h_ff.specs.Orders.{ops_of}
+use Rattle.h_add.specs.Orders.{chosen}
 use Rattle.h_ff.proofs.operators.add_operators.Given as goal
 
 abbrev pub invariant-loop-place : goal.invariant-loop-place

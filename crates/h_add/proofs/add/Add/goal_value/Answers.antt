@@ -10,8 +10,8 @@ use Rattle.h_add.proofs.add.Add.goal_value.Goals as goal
 -- the answer sums the costs that contracts see
 sums : (c : goal.After-estimate) → c.estimate.result ≡ total_of (value_at c.args.self.now.costs) c.args.self.now.relaxed.goals
 sums c =
-    let costs : c.as_slice.result.now ≡ c.args.self.now.costs = c.as_slice.ensures ∙ ap (λ (e : Evaluator). e.costs) c.self.view_is in
-    let goals : c.goals.result.now ≡ c.args.self.now.relaxed.goals = c.goals.ensures.goals ∙ ap (λ (e : Evaluator). e.relaxed.goals) c.self.view_is in
+    let costs : c.costs.result.now ≡ c.args.self.now.costs = c.costs.ensures ∙ ap (λ (e : Evaluator). e.costs) c.self.view_is in
+    let goals : c.goals.result.now ≡ c.args.self.now.relaxed.goals = (rw c.relaxed.ensures at c.goals.ensures.goals) ∙ ap (λ (e : Evaluator). e.relaxed.goals) c.self.view_is in
     c.estimate.ensures ∙ (c.total.ensures ∙ (ap (λ (xs : List ℕ). total_of (value_at xs) c.goals.result.now) costs ∙ ap (λ (xs : List ℕ). total_of (value_at c.args.self.now.costs) xs) goals))
 
 pub returns-clause-value : goal.returns-clause-value
@@ -23,3 +23,6 @@ returns-clause-value c parts kind state without is evaluated = record {
 
 pub returns-clause-dead : goal.returns-clause-dead
 returns-clause-dead c parts kind state is evaluated = sum_infinite_if_dead parts kind c.args.self.now.relaxed state c.args.self.now.costs c.estimate.result is evaluated (sums c)
+
+pub total-requires : goal.total-requires
+total-requires c = rw (c.costs.ensures, ← c.self.invariant.facts, ← c.relaxed.ensures) c.goals.ensures.facts

@@ -9,8 +9,8 @@ use Rattle.h_add.proofs.add.Add.is_dead.Goals as goal
 -- the answer looks at the costs that contracts see
 looks : (c : goal.After-some_infinite) → c.some_infinite.result ≡ list_any (λ (fact : ℕ). not (is_finite (value_at c.args.self.now.costs fact))) c.args.self.now.relaxed.goals
 looks c =
-    let costs : c.as_slice.result.now ≡ c.args.self.now.costs = c.as_slice.ensures ∙ ap (λ (e : Evaluator). e.costs) c.self.view_is in
-    let goals : c.goals.result.now ≡ c.args.self.now.relaxed.goals = c.goals.ensures.goals ∙ ap (λ (e : Evaluator). e.relaxed.goals) c.self.view_is in
+    let costs : c.costs.result.now ≡ c.args.self.now.costs = c.costs.ensures ∙ ap (λ (e : Evaluator). e.costs) c.self.view_is in
+    let goals : c.goals.result.now ≡ c.args.self.now.relaxed.goals = (rw c.relaxed.ensures at c.goals.ensures.goals) ∙ ap (λ (e : Evaluator). e.relaxed.goals) c.self.view_is in
     c.some_infinite.ensures ∙ (ap (λ (xs : List ℕ). list_any (λ (fact : ℕ). not (is_finite (value_at xs fact))) c.goals.result.now) costs ∙ ap (λ (xs : List ℕ). list_any (λ (fact : ℕ). not (is_finite (value_at c.args.self.now.costs fact))) xs) goals)
 
 pub returns-clause-exact : goal.returns-clause-exact

@@ -1,0 +1,356 @@
+-- Chains after a number more or less.
+use Rattle.std.proofs.Common.{◌≡◌, ◌≢◌, ◌∙◌, sym, ap, subst, refl, ℕ, zero, suc, ◌+◌, ◌<◌, ◌≤◌, ◌⊎◌, inl, inr, List, [], ◌∷◌, length, Bool, true, false, nat_eq, arith, min, max, Option, Some, None, slice_get, slice_set, get_or, replicate, get_or-set_other, get_or-set_same}
+use Rattle.std.proofs.lemmas.Bool.Decides.{nat_tests}
+use Rattle.std.proofs.lemmas.List.{length-set, length-replicate, get_or_default}
+use Rattle.std.proofs.lemmas.Option.{get_or_from_slice_get}
+use Rattle.cost_queue.specs.Queues.{price_of, IsTaken}
+use Rattle.cost_queue.specs.Laws.{there}
+use Rattle.cost_queue.specs.Links.{is_price, waits, IsChain, Chained, AreChained}
+use Rattle.cost_queue.specs.Occurrences.{one_if, occurrences}
+use Rattle.cost_queue.specs.declared.entry.Entry.{Entry}
+
+-- the same number, or another
+pub places : (m n : ℕ) → ((m ≡ n) × (nat_eq m n ≡ true)) ⊎ ((m ≢ n) × (nat_eq m n ≡ false))
+places m n = grind (arith, nat_tests)
+
+pub same_place : (n : ℕ) → nat_eq n n ≡ true
+same_place n = grind (arith, nat_tests)
+
+-- what one number's price changes
+pub waits_here : (waiting : List (Option ℕ)) (number price : ℕ) (x : Option ℕ) → number < length waiting → waits (slice_set waiting number x) number price ≡ one_if (is_price x price)
+waits_here waiting number price x lt = ap (λ (o : Option ℕ). one_if (is_price o price)) (get_or-set_same waiting number x None lt)
+
+pub waits_there : (waiting : List (Option ℕ)) (number m price : ℕ) (x : Option ℕ) → m ≢ number → waits (slice_set waiting number x) m price ≡ waits waiting m price
+waits_there waiting number m price x ne = ap (λ (o : Option ℕ). one_if (is_price o price)) (get_or-set_other waiting number m x None ne)
+
+pub never_waits : (waiting : List (Option ℕ)) (number price : ℕ) → price_of waiting number ≡ None → waits waiting number price ≡ 0
+never_waits waiting number price none = ap (λ (o : Option ℕ). one_if (is_price o price)) none
+
+pub waits_once : (waiting : List (Option ℕ)) (number price : ℕ) → price_of waiting number ≡ Some price → waits waiting number price ≡ 1
+waits_once waiting number price at = ap (λ (o : Option ℕ). one_if (is_price o price)) at ∙ ap one_if (same_place price)
+
+pub waited : (waiting : List (Option ℕ)) (number price : ℕ) → 0 < waits waiting number price → price_of waiting number ≡ Some price
+waited waiting number price some = by_price (price_of waiting number) some
+  where
+    by_test : (other : ℕ) (b : Bool) → nat_eq other price ≡ b → 0 < one_if b → Some other ≡ Some price
+    by_test other true is some = let same : other ≡ price = grind (arith, nat_tests, is) in ap (λ (n : ℕ). Some n) same
+    by_test other false is some = absurd (omega arith)
+
+    by_price : (o : Option ℕ) → 0 < one_if (is_price o price) → o ≡ Some price
+    by_price None some = absurd (omega arith)
+    by_price (Some other) some = by_test other (nat_eq other price) refl some
+
+-- who waits under one price waits under no other
+pub waits_once_only : (waiting : List (Option ℕ)) (number price other : ℕ) → price_of waiting number ≡ Some price → price ≢ other → waits waiting number other ≡ 0
+waits_once_only waiting number price other at ne = ap (λ (o : Option ℕ). one_if (is_price o other)) at ∙ by_place (places price other)
+  where
+    by_place : ((price ≡ other) × (nat_eq price other ≡ true)) ⊎ ((price ≢ other) × (nat_eq price other ≡ false)) → one_if (nat_eq price other) ≡ 0
+    by_place (inl same) = absurd (ne same.0)
+    by_place (inr other) = ap one_if other.1
+
+-- a link of a number that isn't in a chain
+chain_kept : (next : List (Option ℕ)) (number : ℕ) (x head : Option ℕ) (numbers : List ℕ) → occurrences number numbers ≡ 0 → IsChain next head numbers → IsChain (slice_set next number x) head numbers
+chain_kept next number x head [] none is = is
+chain_kept next number x head (y ∷ numbers) none is = by_place (places number y) none (λ rest. chain_kept next number x (get_or next y None) numbers rest is.1)
+  where
+    by_place : ((number ≡ y) × (nat_eq number y ≡ true)) ⊎ ((number ≢ y) × (nat_eq number y ≡ false)) → one_if (nat_eq number y) + occurrences number numbers ≡ 0 →
+        (occurrences number numbers ≡ 0 → IsChain (slice_set next number x) (get_or next y None) numbers) → IsChain (slice_set next number x) head (y ∷ numbers)
+    by_place (inl same) none rest = let one : one_if (nat_eq number y) ≡ 1 = ap one_if same.1 in absurd (omega arith)
+    by_place (inr other) none rest =
+        let ne : y ≢ number = λ e. other.0 (sym e) in
+        let zero_here : one_if (nat_eq number y) ≡ 0 = ap one_if other.1 in
+        let link : get_or (slice_set next number x) y None ≡ get_or next y None = get_or-set_other next number y x None ne in
+        (is.0, subst (λ (o : Option ℕ). IsChain (slice_set next number x) o numbers) (sym link) (rest (omega arith)))
+
+-- a number more in front of the chain of its price
+chain_longer : (waiting next : List (Option ℕ)) (head : Option ℕ) (number price : ℕ) → number < length waiting → length next ≡ length waiting → price_of waiting number ≡ None → Chained waiting next head price →
+    Chained (slice_set waiting number (Some price)) (slice_set next number head) (Some number) price
+chain_longer waiting next head number price lt long none c = record {
+  numbers = number ∷ c.numbers;
+  chain = (refl, subst (λ (o : Option ℕ). IsChain (slice_set next number head) o c.numbers) (sym link) (chain_kept next number head head c.numbers (c.those number ∙ never_waits waiting number price none) c.chain));
+  those = λ m. by_place m (places m number);
+}
+  where
+    link : get_or (slice_set next number head) number None ≡ head
+    link = get_or-set_same next number head None (omega arith)
+
+    by_place : (m : ℕ) → ((m ≡ number) × (nat_eq m number ≡ true)) ⊎ ((m ≢ number) × (nat_eq m number ≡ false)) →
+        one_if (nat_eq m number) + occurrences m c.numbers ≡ waits (slice_set waiting number (Some price)) m price
+    by_place m (inl same) =
+        let one : one_if (nat_eq m number) ≡ 1 = ap one_if same.1 in
+        let before : occurrences m c.numbers ≡ 0 = c.those m ∙ (ap (λ (n : ℕ). waits waiting n price) same.0 ∙ never_waits waiting number price none) in
+        let now : waits (slice_set waiting number (Some price)) m price ≡ 1 = ap (λ (n : ℕ). waits (slice_set waiting number (Some price)) n price) same.0 ∙ (waits_here waiting number price (Some price) lt ∙ ap one_if (same_place price)) in
+        omega arith
+    by_place m (inr other) =
+        let none_here : one_if (nat_eq m number) ≡ 0 = ap one_if other.1 in
+        let before = c.those m in
+        let now = waits_there waiting number m price (Some price) other.0 in
+        omega arith
+
+-- the chain of another price
+chain_same : (waiting next : List (Option ℕ)) (head x : Option ℕ) (number price other : ℕ) → number < length waiting → price_of waiting number ≡ None → price ≢ other → Chained waiting next head other →
+    Chained (slice_set waiting number (Some price)) (slice_set next number x) head other
+chain_same waiting next head x number price other lt none ne c = record {
+  numbers = c.numbers;
+  chain = chain_kept next number x head c.numbers (c.those number ∙ never_waits waiting number other none) c.chain;
+  those = λ m. c.those m ∙ by_place m (places m number);
+}
+  where
+    by_place : (m : ℕ) → ((m ≡ number) × (nat_eq m number ≡ true)) ⊎ ((m ≢ number) × (nat_eq m number ≡ false)) → waits waiting m other ≡ waits (slice_set waiting number (Some price)) m other
+    by_place m (inl same) =
+        let before : waits waiting m other ≡ 0 = ap (λ (n : ℕ). waits waiting n other) same.0 ∙ never_waits waiting number other none in
+        let now : waits (slice_set waiting number (Some price)) m other ≡ 0 = ap (λ (n : ℕ). waits (slice_set waiting number (Some price)) n other) same.0 ∙ waits_once_only (slice_set waiting number (Some price)) number price other (get_or-set_same waiting number (Some price) None lt) ne in
+        before ∙ sym now
+    by_place m (inr elsewhere) = sym (waits_there waiting number m other (Some price) elsewhere.0)
+
+pub low_pushed : (waiting next heads : List (Option ℕ)) (start end now_start now_end number price : ℕ) (head : Option ℕ) → number < length waiting → price_of waiting number ≡ None → price < 16384 → head ≡ get_or heads price None →
+    now_start ≡ min start price → now_end ≡ max end (price + 1) → AreChained waiting next heads start end →
+    AreChained (slice_set waiting number (Some price)) (slice_set next number head) (slice_set heads price (Some number)) now_start now_end
+low_pushed waiting next heads start end now_start now_end number price head lt none low head_is starts ends c = record {
+  next_long = length-set next number head ∙ (c.next_long ∙ sym (length-set waiting number (Some price)));
+  heads_long = length-set heads price (Some number) ∙ c.heads_long;
+  end_within = let within = c.end_within in omega arith;
+  chains = λ q small. by_place q small (places q price);
+  first = λ q before. get_or-set_other heads price q (Some number) None (λ e. absurd (omega arith)) ∙ c.first q (omega arith);
+  last = λ q behind. get_or-set_other heads price q (Some number) None (λ e. absurd (omega arith)) ∙ c.last q (omega arith);
+}
+  where
+    by_place : (q : ℕ) → q < 16384 → ((q ≡ price) × (nat_eq q price ≡ true)) ⊎ ((q ≢ price) × (nat_eq q price ≡ false)) →
+        Chained (slice_set waiting number (Some price)) (slice_set next number head) (get_or (slice_set heads price (Some number)) q None) q
+    by_place q small (inl same) =
+        let within : price < length heads = let long = c.heads_long in omega arith in
+        let chain = chain_longer waiting next (get_or heads price None) number price lt c.next_long none (c.chains price low) in
+        let head_now : get_or (slice_set heads price (Some number)) price None ≡ Some number = get_or-set_same heads price (Some number) None within in
+        let at_price : Chained (slice_set waiting number (Some price)) (slice_set next number head) (get_or (slice_set heads price (Some number)) price None) price = rw (head_now, head_is) chain in
+        subst (λ (p : ℕ). Chained (slice_set waiting number (Some price)) (slice_set next number head) (get_or (slice_set heads price (Some number)) p None) p) (sym same.0) at_price
+    by_place q small (inr other) =
+        let head_same : get_or (slice_set heads price (Some number)) q None ≡ get_or heads q None = get_or-set_other heads price q (Some number) None other.0 in
+        rw head_same (chain_same waiting next (get_or heads q None) head number price q lt none (λ e. other.0 (sym e)) (c.chains q small))
+
+-- nothing waits where a chain is empty
+pub empty_chain : (waiting next : List (Option ℕ)) (head : Option ℕ) (price number : ℕ) → head ≡ None → Chained waiting next head price → waits waiting number price ≡ 0
+empty_chain waiting next head price number none c = by_numbers c.numbers c.chain (c.those number)
+  where
+    by_numbers : (numbers : List ℕ) → IsChain next head numbers → occurrences number numbers ≡ waits waiting number price → waits waiting number price ≡ 0
+    by_numbers [] is those = sym those
+    by_numbers (y ∷ numbers) is those = let k : None ≡ Some y = sym none ∙ is.0 in cc
+
+-- the first of a chain
+record First (waiting next : List (Option ℕ)) (number price : ℕ) : Type 0 where
+  rest : List ℕ
+  chain : IsChain next (get_or next number None) rest
+  those : (m : ℕ) → one_if (nat_eq m number) + occurrences m rest ≡ waits waiting m price
+
+first_of : (waiting next : List (Option ℕ)) (head : Option ℕ) (number price : ℕ) → head ≡ Some number → Chained waiting next head price → First waiting next number price
+first_of waiting next head number price at c = by_numbers c.numbers c.chain c.those
+  where
+    by_numbers : (numbers : List ℕ) → IsChain next head numbers → ((m : ℕ) → occurrences m numbers ≡ waits waiting m price) → First waiting next number price
+    by_numbers [] is those = let k : None ≡ Some number = sym is ∙ at in cc
+    by_numbers (y ∷ numbers) is those =
+        let k : Some y ≡ Some number = sym is.0 ∙ at in
+        let same : y ≡ number = cc in
+        record {
+          rest = numbers;
+          chain = subst (λ (n : ℕ). IsChain next (get_or next n None) numbers) same is.1;
+          those = subst (λ (n : ℕ). (m : ℕ) → one_if (nat_eq m n) + occurrences m numbers ≡ waits waiting m price) same those;
+        }
+
+pub first_waits : (waiting next : List (Option ℕ)) (head : Option ℕ) (number price : ℕ) → head ≡ Some number → Chained waiting next head price → price_of waiting number ≡ Some price
+first_waits waiting next head number price at c =
+    let f = first_of waiting next head number price at c in
+    let one : one_if (nat_eq number number) ≡ 1 = ap one_if (same_place number) in
+    let those = f.those number in
+    waited waiting number price (omega arith)
+
+-- a number that waits no more, and another price
+rest_same : (waiting next : List (Option ℕ)) (head : Option ℕ) (number price other : ℕ) → price_of waiting number ≡ Some price → price ≢ other → Chained waiting next head other → Chained (slice_set waiting number None) next head other
+rest_same waiting next head number price other at ne c = record {
+  numbers = c.numbers;
+  chain = c.chain;
+  those = λ m. c.those m ∙ by_place m (places m number);
+}
+  where
+    by_place : (m : ℕ) → ((m ≡ number) × (nat_eq m number ≡ true)) ⊎ ((m ≢ number) × (nat_eq m number ≡ false)) → waits waiting m other ≡ waits (slice_set waiting number None) m other
+    by_place m (inl same) =
+        let before : waits waiting m other ≡ 0 = ap (λ (n : ℕ). waits waiting n other) same.0 ∙ waits_once_only waiting number price other at ne in
+        let now : waits (slice_set waiting number None) m other ≡ 0 = ap (λ (n : ℕ). waits (slice_set waiting number None) n other) same.0 ∙ waits_here waiting number other None (there waiting number price at) in
+        before ∙ sym now
+    by_place m (inr elsewhere) = sym (waits_there waiting number m other None elsewhere.0)
+
+rest_of : (waiting next : List (Option ℕ)) (head : Option ℕ) (number price : ℕ) → price_of waiting number ≡ Some price → First waiting next number price → Chained (slice_set waiting number None) next (get_or next number None) price
+rest_of waiting next head number price at f = record {
+  numbers = f.rest;
+  chain = f.chain;
+  those = λ m. by_place m (places m number);
+}
+  where
+    by_place : (m : ℕ) → ((m ≡ number) × (nat_eq m number ≡ true)) ⊎ ((m ≢ number) × (nat_eq m number ≡ false)) → occurrences m f.rest ≡ waits (slice_set waiting number None) m price
+    by_place m (inl same) =
+        let one : one_if (nat_eq m number) ≡ 1 = ap one_if same.1 in
+        let before : waits waiting m price ≡ 1 = ap (λ (n : ℕ). waits waiting n price) same.0 ∙ waits_once waiting number price at in
+        let now : waits (slice_set waiting number None) m price ≡ 0 = ap (λ (n : ℕ). waits (slice_set waiting number None) n price) same.0 ∙ waits_here waiting number price None (there waiting number price at) in
+        let those = f.those m in
+        omega arith
+    by_place m (inr elsewhere) =
+        let none_here : one_if (nat_eq m number) ≡ 0 = ap one_if elsewhere.1 in
+        let those = f.those m in
+        let now = waits_there waiting number m price None elsewhere.0 in
+        omega arith
+
+low_popped : (waiting next heads : List (Option ℕ)) (start end number price : ℕ) (after : Option ℕ) → price < end → get_or heads price None ≡ Some number → after ≡ get_or next number None →
+    ((q : ℕ) → start ≤ q → q < price → get_or heads q None ≡ None) → AreChained waiting next heads start end →
+    AreChained (slice_set waiting number None) next (slice_set heads price after) price end
+low_popped waiting next heads start end number price after less at after_is empty c = record {
+  next_long = c.next_long ∙ sym (length-set waiting number None);
+  heads_long = length-set heads price after ∙ c.heads_long;
+  end_within = c.end_within;
+  chains = λ q small. by_place q small (places q price);
+  first = λ q before. get_or-set_other heads price q after None (λ e. absurd (omega arith)) ∙ by_order q before (order q);
+  last = λ q behind. get_or-set_other heads price q after None (λ e. absurd (omega arith)) ∙ c.last q behind;
+}
+  where
+    low : price < 16384
+    low = let within = c.end_within in omega arith
+
+    waits_now : price_of waiting number ≡ Some price
+    waits_now = first_waits waiting next (get_or heads price None) number price at (c.chains price low)
+
+    order : (q : ℕ) → (q < start) ⊎ (start ≤ q)
+    order q = grind arith
+
+    by_order : (q : ℕ) → q < price → (q < start) ⊎ (start ≤ q) → get_or heads q None ≡ None
+    by_order q before (inl first) = c.first q first
+    by_order q before (inr later) = empty q later before
+
+    by_place : (q : ℕ) → q < 16384 → ((q ≡ price) × (nat_eq q price ≡ true)) ⊎ ((q ≢ price) × (nat_eq q price ≡ false)) →
+        Chained (slice_set waiting number None) next (get_or (slice_set heads price after) q None) q
+    by_place q small (inl same) =
+        let within : price < length heads = let long = c.heads_long in omega arith in
+        let chain = rest_of waiting next (get_or heads price None) number price waits_now (first_of waiting next (get_or heads price None) number price at (c.chains price low)) in
+        let head_now : get_or (slice_set heads price after) price None ≡ after = get_or-set_same heads price after None within in
+        let at_price : Chained (slice_set waiting number None) next (get_or (slice_set heads price after) price None) price = rw (head_now, after_is) chain in
+        subst (λ (p : ℕ). Chained (slice_set waiting number None) next (get_or (slice_set heads price after) p None) p) (sym same.0) at_price
+    by_place q small (inr other) =
+        let head_same : get_or (slice_set heads price after) q None ≡ get_or heads q None = get_or-set_other heads price q after None other.0 in
+        rw head_same (rest_same waiting next (get_or heads q None) number price q waits_now (λ e. other.0 (sym e)) (c.chains q small))
+
+-- no number waits under a price before the first that has any
+low_taken : (waiting next heads : List (Option ℕ)) (start end : ℕ) (entry : Entry) → entry.price < end → get_or heads entry.price None ≡ Some entry.number →
+    ((q : ℕ) → start ≤ q → q < entry.price → get_or heads q None ≡ None) → AreChained waiting next heads start end → IsTaken waiting (slice_set waiting entry.number None) entry
+low_taken waiting next heads start end entry less at empty c = record {
+  waited = first_waits waiting next (get_or heads entry.price None) entry.number entry.price at (c.chains entry.price low);
+  rest = refl;
+  least = λ number price waits_there. by_order number price waits_there (order price entry.price);
+}
+  where
+    low : entry.price < 16384
+    low = let within = c.end_within in omega arith
+
+    order : (a b : ℕ) → (a < b) ⊎ (b ≤ a)
+    order a b = grind arith
+
+    head_none : (price : ℕ) → price < entry.price → (price < start) ⊎ (start ≤ price) → get_or heads price None ≡ None
+    head_none price before (inl first) = c.first price first
+    head_none price before (inr later) = empty price later before
+
+    by_order : (number price : ℕ) → price_of waiting number ≡ Some price → (price < entry.price) ⊎ (entry.price ≤ price) → entry.price ≤ price
+    by_order number price waits_there (inr le) = le
+    by_order number price waits_there (inl lt) =
+        let none = empty_chain waiting next (get_or heads price None) price number (head_none price lt (order price start)) (c.chains price (omega arith)) in
+        let one = waits_once waiting number price waits_there in
+        absurd (omega arith)
+
+-- the first of the chains, as it was found
+abbrev pub IsFirst : List (Option ℕ) → ℕ → ℕ → Entry → Type 0
+IsFirst heads start end entry = (entry.price < end) × (start ≤ entry.price) × (slice_get heads entry.price ≡ Some (Some entry.number))
+
+abbrev pub AreEmpty : List (Option ℕ) → ℕ → ℕ → Type 0
+AreEmpty heads start end = (price : ℕ) → start ≤ price → price < end → get_or heads price None ≡ None
+
+pub found_taken : (waiting next heads shown : List (Option ℕ)) (start end : ℕ) (entry : Entry) → shown ≡ heads → IsFirst shown start end entry → AreEmpty shown start entry.price → AreChained waiting next heads start end →
+    IsTaken waiting (slice_set waiting entry.number None) entry
+found_taken waiting next heads shown start end entry same first empty c =
+    low_taken waiting next heads start end entry first.0
+    (ap (λ (hs : List (Option ℕ)). get_or hs entry.price None) (sym same) ∙ get_or_from_slice_get shown entry.price (Some entry.number) None first.2)
+    (λ q from before. ap (λ (hs : List (Option ℕ)). get_or hs q None) (sym same) ∙ empty q from before) c
+
+pub found_popped : (waiting next heads shown : List (Option ℕ)) (start end : ℕ) (entry : Entry) (after : Option ℕ) → shown ≡ heads → IsFirst shown start end entry → AreEmpty shown start entry.price → after ≡ get_or next entry.number after → AreChained waiting next heads start end →
+    AreChained (slice_set waiting entry.number None) next (slice_set heads entry.price after) entry.price end
+found_popped waiting next heads shown start end entry after same first empty after_is c =
+    let taken = found_taken waiting next heads shown start end entry same first empty c in
+    let lt = there waiting entry.number entry.price taken.waited in
+    let within : entry.number < length next = let long = c.next_long in omega arith in
+    low_popped waiting next heads start end entry.number entry.price after first.0
+    (ap (λ (hs : List (Option ℕ)). get_or hs entry.price None) (sym same) ∙ get_or_from_slice_get shown entry.price (Some entry.number) None first.2)
+    (after_is ∙ get_or_default next entry.number after None within)
+    (λ q from before. ap (λ (hs : List (Option ℕ)). get_or hs q None) (sym same) ∙ empty q from before) c
+
+-- all wait under high prices where no chain has any
+pub none_low : (waiting next heads : List (Option ℕ)) (start end : ℕ) → ((q : ℕ) → start ≤ q → q < end → get_or heads q None ≡ None) → AreChained waiting next heads start end →
+    (number price : ℕ) → price_of waiting number ≡ Some price → 16384 ≤ price
+none_low waiting next heads start end empty c number price at = by_order (order price 16384)
+  where
+    order : (a b : ℕ) → (a < b) ⊎ (b ≤ a)
+    order a b = grind arith
+
+    head_none : (price < start) ⊎ (start ≤ price) → (price < end) ⊎ (end ≤ price) → get_or heads price None ≡ None
+    head_none (inl first) b = c.first price first
+    head_none (inr later) (inl within) = empty price later within
+    head_none (inr later) (inr behind) = c.last price behind
+
+    by_order : (price < 16384) ⊎ (16384 ≤ price) → 16384 ≤ price
+    by_order (inr le) = le
+    by_order (inl lt) =
+        let none = empty_chain waiting next (get_or heads price None) price number (head_none (order price start) (order price end)) (c.chains price lt) in
+        let one = waits_once waiting number price at in
+        absurd (omega arith)
+
+-- a number that waits under a high price is in no chain
+pub low_kept_more : (waiting next heads : List (Option ℕ)) (start end number price : ℕ) → number < length waiting → price_of waiting number ≡ None → 16384 ≤ price → AreChained waiting next heads start end →
+    AreChained (slice_set waiting number (Some price)) next heads start end
+low_kept_more waiting next heads start end number price lt none high c = record {
+  next_long = c.next_long ∙ sym (length-set waiting number (Some price));
+  heads_long = c.heads_long;
+  end_within = c.end_within;
+  chains = λ q small. (let chain = c.chains q small in record { numbers = chain.numbers; chain = chain.chain; those = λ m. chain.those m ∙ by_place q small m (places m number) });
+  first = c.first;
+  last = c.last;
+}
+  where
+    by_place : (q : ℕ) → q < 16384 → (m : ℕ) → ((m ≡ number) × (nat_eq m number ≡ true)) ⊎ ((m ≢ number) × (nat_eq m number ≡ false)) → waits waiting m q ≡ waits (slice_set waiting number (Some price)) m q
+    by_place q small m (inl same) =
+        let ne : price ≢ q = λ e. absurd (omega arith) in
+        let before : waits waiting m q ≡ 0 = ap (λ (n : ℕ). waits waiting n q) same.0 ∙ never_waits waiting number q none in
+        let now : waits (slice_set waiting number (Some price)) m q ≡ 0 = ap (λ (n : ℕ). waits (slice_set waiting number (Some price)) n q) same.0 ∙ waits_once_only (slice_set waiting number (Some price)) number price q (get_or-set_same waiting number (Some price) None lt) ne in
+        before ∙ sym now
+    by_place q small m (inr elsewhere) = sym (waits_there waiting number m q (Some price) elsewhere.0)
+
+pub low_kept_less : (waiting next heads : List (Option ℕ)) (start end number price : ℕ) → price_of waiting number ≡ Some price → 16384 ≤ price → AreChained waiting next heads start end →
+    AreChained (slice_set waiting number None) next heads start end
+low_kept_less waiting next heads start end number price at high c = record {
+  next_long = c.next_long ∙ sym (length-set waiting number None);
+  heads_long = c.heads_long;
+  end_within = c.end_within;
+  chains = λ q small. rest_same waiting next (get_or heads q None) number price q at (λ e. absurd (omega arith)) (c.chains q small);
+  first = c.first;
+  last = c.last;
+}
+
+-- at first no number waits
+pub none_at : (n i : ℕ) → get_or (replicate {A = Option ℕ} n None) i None ≡ None
+none_at zero i = refl
+none_at (suc n) zero = refl
+none_at (suc n) (suc i) = none_at n i
+
+pub low_new : (waiting next heads : List (Option ℕ)) (n m : ℕ) → m ≡ 16384 → waiting ≡ replicate n None → next ≡ replicate n None → heads ≡ replicate m None → AreChained waiting next heads 16384 0
+low_new waiting next heads n m low waiting_is next_is heads_is = record {
+  next_long = rw (waiting_is, next_is) refl;
+  heads_long = ap length heads_is ∙ (length-replicate m None ∙ low);
+  end_within = omega arith;
+  chains = λ price small. record { numbers = []; chain = no_head price; those = λ k. rw waiting_is (sym (never_waits (replicate n None) k price (none_at n k))) };
+  first = λ price before. no_head price;
+  last = λ price behind. no_head price;
+}
+  where
+    no_head : (price : ℕ) → get_or heads price None ≡ None
+    no_head price = ap (λ (hs : List (Option ℕ)). get_or hs price None) heads_is ∙ none_at m price

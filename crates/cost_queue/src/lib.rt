@@ -1,0 +1,9 @@
+//! Numbers that wait, each under a price; one that waits under the least price comes first.
+#![tactic(auto)]
+
+mod chains;
+mod entry;
+mod queue;
+
+pub use entry::Entry;
+pub use queue::CostQueue;

@@ -1,0 +1,144 @@
+// The queue: numbers under low prices in chains, the others in a heap.
+ghost use Rattle.std.specs.Prelude.{◌≡◌, ◌<◌, ◌≤◌, ℕ, length, replicate, None, Some, slice_set, IfOk, MatchOption};
+ghost use Rattle.cost_queue.specs.Queues.{price_of, IsTaken, IsPopped, IsIdle};
+
+use crate::chains::{LOW, first_low, nothing};
+use crate::entry::Entry;
+use std::alloc::{AllocError, Global};
+use std::cmp::Reverse;
+use std::collections::BinaryHeap;
+use std::marker::Model;
+
+/// Numbers that wait, each under one price. Contracts see the price of each number, if it has one.
+///
+/// Only `new` takes memory. Adding a number under a price below 16,384 and taking it out takes
+/// constant time, where prices never fall below that of the last number taken out.
+#[derive(Drop)]
+pub struct CostQueue {
+    prices: Vec<Option<u32>>,
+    /// The next in the chain of a number.
+    next: Vec<Option<u32>>,
+    /// The first number under each low price.
+    heads: Vec<Option<u32>>,
+    /// The chains before this price are empty.
+    start: usize,
+    /// The chains from this price on are empty.
+    end: usize,
+    heap: BinaryHeap<Reverse<(u32, u32)>>,
+}
+
+impl Model for CostQueue {
+    ghost use Rattle.std.specs.Prelude.{List, Option, ℕ};
+    ghost use Rattle.std.specs.BinaryHeap.{heap_items, heap_len, heap_capacity};
+    ghost use Rattle.cost_queue.specs.Links.{IsQueue};
+
+    ghost Value = { List (Option ℕ) };
+
+    ghost view = { λ q. q.prices.items };
+
+    ghost invariant = { λ q. IsQueue q.prices.items q.next.items q.heads.items q.start q.end (heap_items q.heap) (heap_len q.heap) (heap_capacity q.heap) };
+}
+
+impl CostQueue {
+    /// A queue for so many numbers, in which none waits.
+    pub fn new(alloc: Global, numbers: usize) -> Result<CostQueue, AllocError>
+        ensures { IfOk result (λ q. q ≡ replicate numbers None) }
+    {
+        let prices = nothing(alloc, numbers)?;
+        let next = nothing(alloc, numbers)?;
+        let heads = nothing(alloc, LOW)?;
+        let heap = BinaryHeap::with_capacity(alloc, numbers)?;
+        Ok(CostQueue {
+            prices,
+            next,
+            heads,
+            start: LOW,
+            end: 0,
+            heap,
+        })
+    }
+
+    fn push_low(&mut self, number: u32, price: u32)
+        requires there { number < length self.old }
+        requires new { price_of self.old number ≡ None }
+        requires low { price < 16384 }
+        ensures { self.new ≡ slice_set self.old number (Some price) }
+    {
+        let low = price as usize;
+        self.next[number as usize] = self.heads[low];
+        self.heads[low] = Some(number);
+        self.start = self.start.min(low);
+        self.end = self.end.max(low + 1);
+        self.prices[number as usize] = Some(price);
+    }
+
+    fn push_high(&mut self, number: u32, price: u32)
+        requires there { number < length self.old }
+        requires new { price_of self.old number ≡ None }
+        requires high { 16384 ≤ price }
+        ensures { self.new ≡ slice_set self.old number (Some price) }
+    {
+        match self.heap.push(Reverse((price, number))) {
+            Ok(()) => self.prices[number as usize] = Some(price),
+            Err(_) => unreachable!(),
+        }
+    }
+
+    /// Adds a number that doesn't wait.
+    pub fn push(&mut self, number: u32, price: u32)
+        requires there { number < length self.old }
+        requires new { price_of self.old number ≡ None }
+        ensures { self.new ≡ slice_set self.old number (Some price) }
+    {
+        if price < LOW as u32 {
+            self.push_low(number, price);
+        } else {
+            self.push_high(number, price);
+        }
+    }
+
+    fn pop_low(&mut self) -> Option<Entry>
+        ensures { MatchOption result ((self.new ≡ self.old) × ((number price : ℕ) → price_of self.old number ≡ Some price → 16384 ≤ price)) (λ entry. IsTaken self.old self.new entry) }
+    {
+        match first_low(&self.heads, self.start, self.end) {
+            Some(entry) => {
+                self.heads[entry.price as usize] = self.next[entry.number as usize];
+                self.start = entry.price as usize;
+                self.prices[entry.number as usize] = None;
+                Some(entry)
+            }
+            None => None,
+        }
+    }
+
+    fn pop_high(&mut self) -> Option<Entry>
+        requires { (number price : ℕ) → price_of self.old number ≡ Some price → 16384 ≤ price }
+        ensures { IsPopped self.old self.new result }
+    {
+        match self.heap.pop() {
+            Some(Reverse((price, number))) => {
+                self.prices[number as usize] = None;
+                Some(Entry { price, number })
+            }
+            None => None,
+        }
+    }
+
+    /// Takes out a number that waits under the least price.
+    pub fn pop(&mut self) -> Option<Entry>
+        ensures { IsPopped self.old self.new result }
+    {
+        match self.pop_low() {
+            Some(entry) => Some(entry),
+            None => self.pop_high(),
+        }
+    }
+
+    /// Takes out all that wait.
+    pub fn clear(&mut self)
+        ensures none { IsIdle self.new }
+        ensures long { length self.new ≡ length self.old }
+    {
+        'waiting: while let Some(_) = self.pop() {}
+    }
+}

@@ -1,0 +1,255 @@
+-- What is reached costs what it does by the rounds.
+use Rattle.std.proofs.Common.{◌≡◌, ◌≢◌, ◌∙◌, sym, ap, subst, refl, ℕ, zero, suc, ◌+◌, ◌*◌, ◌<◌, ◌≤◌, ◌⊎◌, inl, inr, List, [], ◌∷◌, ◌++◌, length, min, Bool, true, false, nat_eq, nat_le, nat_lt, not, ◌&&◌, ◌||◌, arith, Option, Some, None, slice_get, if◌then◌else◌}
+use Rattle.std.specs.List.{list_all}
+use Rattle.std.proofs.lemmas.Bool.Decides.{nat_tests}
+use Rattle.std.proofs.lemmas.List.Folds.{list_any-append}
+use Rattle.std.proofs.lemmas.Option.{slice_get_within}
+use Rattle.cost_queue.specs.Occurrences.{occurrences}
+use Rattle.cost_queue.specs.Queues.{price_of, IsIdle}
+use Rattle.lama_num.specs.Estimates.{estimate_sum}
+use Rattle.lama_num.specs.Lists.{both}
+use Rattle.lama_num.specs.declared.estimates.Estimate.{Estimate}
+use Rattle.lama_num.specs.declared.estimates.Estimate.TheVariants.{Finite, Infinite}
+use Rattle.relaxed_task.specs.EstimateLaws.{at_most_self, at_most_trans, at_most_infinite, IsCapped, at_most_both}
+use Rattle.h_add.proofs.Rounds.{closed_is_below}
+use Rattle.h_add.specs.ByNumber.{IsClosed, AreBest, IsBest, IsInOrder, is_started, add_round, price}
+use Rattle.relaxed_task.specs.Estimates.{is_finite, IsAtMost, IsLeast}
+use Rattle.relaxed_task.specs.Numbers.{is_among}
+use Rattle.relaxed_task.specs.Relaxing.{sum_of as total}
+use Rattle.relaxed_task.specs.declared.unary.Unary.{Unary}
+use Rattle.h_add.specs.Orders.{chosen, given_by, are_places, IsOrder}
+use Rattle.h_add.specs.Settlements.{Settlement, cost_at, is_settled, is_reached, is_left_out, open_at}
+use Rattle.h_add.specs.UnderWay.{unreached, paid, IsCounted, IsWanted, HasSettled, IsUnderWay, IsSettling, IsFrom}
+use Rattle.h_add.specs.Values.{estimate_of, value_at}
+use Rattle.h_add.proofs.Reaching.{finite_is, infinite_is, large_cost, is_small, reached_small, all_reached, some_unreached, price_paid, total_paid}
+
+-- What is reached costs what it does so far, what is left out is infinite, and all else costs so much.
+abbrev bound : Settlement → Estimate → ℕ → Estimate
+bound t top fact = if is_reached t fact then value_at t.costs fact else (if is_left_out t fact then Infinite else top)
+
+-- all else costs no less, and what is reached no more
+record Parts (t : Settlement) (top : Estimate) : Type 0 where
+  capped : IsCapped top
+  below : (fact : ℕ) → is_reached t fact ≡ true → IsAtMost (value_at t.costs fact) top
+  above : (fact : ℕ) → is_reached t fact ≡ false → is_left_out t fact ≡ false → IsAtMost top (value_at t.costs fact)
+
+left_more : (top a b : Estimate) → IsCapped top → IsAtMost top a → IsAtMost top (estimate_sum a b)
+left_more (Finite n) (Finite a) (Finite b) capped le = omega arith
+left_more (Finite n) (Finite a) Infinite capped le = tt
+left_more (Finite n) Infinite b capped le = tt
+left_more Infinite (Finite a) b capped le = absurd le
+left_more Infinite Infinite b capped le = tt
+
+right_more : (top a b : Estimate) → IsCapped top → IsAtMost top b → IsAtMost top (estimate_sum a b)
+right_more (Finite n) (Finite a) (Finite b) capped le = omega arith
+right_more (Finite n) (Finite a) Infinite capped le = tt
+right_more (Finite n) Infinite b capped le = tt
+right_more Infinite a (Finite b) capped le = absurd le
+right_more Infinite (Finite a) Infinite capped le = tt
+right_more Infinite Infinite Infinite capped le = tt
+
+top_below : (t : Settlement) (top : Estimate) (fact : ℕ) → is_reached t fact ≡ false → IsAtMost top (bound t top fact)
+top_below t top fact not_there = by_test (is_reached t fact) (is_left_out t fact) not_there
+  where
+    by_test : (a b : Bool) → a ≡ false → IsAtMost top (if a then value_at t.costs fact else (if b then Infinite else top))
+    by_test true b is = let k : true ≡ false = is in absurd cc
+    by_test false true is = at_most_infinite top
+    by_test false false is = at_most_self top
+
+below_top : (t : Settlement) (top : Estimate) (fact : ℕ) → Parts t top → is_left_out t fact ≡ false → IsAtMost (bound t top fact) top
+below_top t top fact p kept = by_test (is_reached t fact) (is_left_out t fact) refl kept
+  where
+    by_test : (a b : Bool) → is_reached t fact ≡ a → b ≡ false → IsAtMost (if a then value_at t.costs fact else (if b then Infinite else top)) top
+    by_test true b is kept = p.below fact is
+    by_test false true is kept = let k : true ≡ false = kept in absurd cc
+    by_test false false is kept = at_most_self top
+
+-- where some condition isn't reached the sum is no less
+some_more : (t : Settlement) (top : Estimate) (conds : List ℕ) → IsCapped top → list_all (is_reached t) conds ≡ false → IsAtMost top (total (bound t top) conds)
+some_more t top [] capped some = let k : true ≡ false = some in absurd cc
+some_more t top (c ∷ conds) capped some = by_test (is_reached t c) refl some (λ rest. some_more t top conds capped rest)
+  where
+    by_test : (b : Bool) → is_reached t c ≡ b → (b && list_all (is_reached t) conds) ≡ false → (list_all (is_reached t) conds ≡ false → IsAtMost top (total (bound t top) conds)) → IsAtMost top (total (bound t top) (c ∷ conds))
+    by_test true is some rest = right_more top (bound t top c) (total (bound t top) conds) capped (rest some)
+    by_test false is some rest = left_more top (bound t top c) (total (bound t top) conds) capped (top_below t top c is)
+
+reached_bound : (t : Settlement) (top : Estimate) (fact : ℕ) → is_reached t fact ≡ true → bound t top fact ≡ value_at t.costs fact
+reached_bound t top fact is = rw is refl
+
+all_same : (t : Settlement) (top : Estimate) (conds : List ℕ) → list_all (is_reached t) conds ≡ true → total (bound t top) conds ≡ total (value_at t.costs) conds
+all_same t top [] all = refl
+all_same t top (c ∷ conds) all =
+    let parts = both (is_reached t c) (list_all (is_reached t) conds) all in
+    ap (λ (e : Estimate). estimate_sum e (total (bound t top) conds)) (reached_bound t top c parts.0) ∙ ap (λ (e : Estimate). estimate_sum (value_at t.costs c) e) (all_same t top conds parts.1)
+
+-- what is asked for by one with all conditions reached
+pub price_sum : (unaries : List Unary) (level place : ℕ) (t : Settlement) (u : Unary) → slice_get unaries place ≡ Some u → list_all (is_reached t) u.conds ≡ true → IsUnderWay unaries level [] t →
+    ((open_at t place).count ≡ 0) × (price (value_at t.costs) u ≡ Finite (open_at t place).sum)
+price_sum unaries level place t u at all way =
+    let was = way.each place u at in
+    let count = was.count in
+    let sum = was.sum in
+    let small = was.small in
+    let none = some_unreached (is_reached t) u.conds all in
+    (omega (arith, count, none), price_paid t u all ∙ ap (λ (n : ℕ). Finite n) (omega (arith, sum, small)))
+
+closed : (unaries : List Unary) (without : List ℕ) (level : ℕ) (t : Settlement) (top : Estimate) → ((fact : ℕ) → is_left_out t fact ≡ is_among without fact) → Parts t top → IsUnderWay unaries level [] t → IsClosed unaries without (bound t top)
+closed unaries without level t top out p way i u at stays = by_test (list_all (is_reached t) u.conds) refl
+  where
+    kept : is_left_out t u.gives ≡ false
+    kept = out u.gives ∙ stays
+
+    gives_less : (b : Bool) → is_reached t u.gives ≡ b → cost_at t u.gives ≤ (open_at t i).sum → (open_at t i).sum ≤ 1000000000 → IsAtMost (bound t top u.gives) (Finite (open_at t i).sum)
+    gives_less true is le small =
+        let here : bound t top u.gives ≡ Finite (cost_at t u.gives) = reached_bound t top u.gives is ∙ finite_is (cost_at t u.gives) (omega arith) in
+        rw here le
+    gives_less false is le small =
+        let value : value_at t.costs u.gives ≡ Finite (cost_at t u.gives) = finite_is (cost_at t u.gives) (omega arith) in
+        let over : IsAtMost top (Finite (cost_at t u.gives)) = rw value at (p.above u.gives is kept) in
+        at_most_trans (bound t top u.gives) top (Finite (open_at t i).sum) (below_top t top u.gives p kept) (at_most_trans top (Finite (cost_at t u.gives)) (Finite (open_at t i).sum) over le)
+
+    by_test : (b : Bool) → list_all (is_reached t) u.conds ≡ b → IsAtMost (bound t top u.gives) (price (bound t top) u)
+    by_test true all =
+        let was = way.each i u at in
+        let asks = price_sum unaries level i t u at all way in
+        let same : price (bound t top) u ≡ Finite (open_at t i).sum = ap (λ (e : Estimate). estimate_sum (Finite u.cost) e) (all_same t top u.conds all) ∙ asks.1 in
+        rw same (gives_less (is_reached t u.gives) refl (was.offered asks.0 kept) was.small)
+    by_test false some =
+        at_most_trans (bound t top u.gives) top (price (bound t top) u) (below_top t top u.gives p kept)
+        (right_more top (Finite u.cost) (total (bound t top) u.conds) p.capped (some_more t top u.conds p.capped some))
+
+-- the facts of the start are reached at no cost
+first_bound : (unaries : List Unary) (start without : List ℕ) (t : Settlement) (top : Estimate) → IsFrom unaries start without start t → (fact : ℕ) → is_started start without fact ≡ true → bound t top fact ≡ Finite 0
+first_bound unaries start without t top from fact begins =
+    let parts = both (is_among start fact) (not (is_among without fact)) begins in
+    let stays : is_among without fact ≡ false = denied (is_among without fact) parts.1 in
+    let among : is_among (start ++ given_by (chosen unaries t.order)) fact ≡ true = list_any-append (nat_eq fact) start (given_by (chosen unaries t.order)) ∙ ap (λ (b : Bool). b || is_among (given_by (chosen unaries t.order)) fact) parts.0 in
+    let is : is_reached t fact ≡ true = from.reached fact ∙ rw (among, stays) refl in
+    reached_bound t top fact is ∙ ap estimate_of (from.first fact parts.0 stays)
+  where
+    denied : (b : Bool) → not b ≡ true → b ≡ false
+    denied true h = let k : false ≡ true = h in cc
+    denied false h = refl
+
+exact_where : (unaries : List Unary) (start without : List ℕ) (level : ℕ) (t : Settlement) (top : Estimate) (fact : ℕ) → bound t top fact ≡ value_at t.costs fact → Parts t top → IsUnderWay unaries level [] t → IsFrom unaries start without start t →
+    IsLeast (λ n. add_round unaries start without n fact) (value_at t.costs fact)
+exact_where unaries start without level t top fact same p way from =
+    let a = from.attained fact in
+    let below : (n : ℕ) → IsAtMost (value_at t.costs fact) (add_round unaries start without n fact) =
+    λ n. subst (λ (e : Estimate). IsAtMost e (add_round unaries start without n fact)) same (closed_is_below unaries start without (bound t top) (first_bound unaries start without t top from) (closed unaries without level t top from.out p way) n fact) in
+    record { round = a.0; is = at_most_both (add_round unaries start without a.0 fact) (value_at t.costs fact) a.1 (below a.0); least = below }
+
+-- what isn't reached waits for no less than the level, or for nothing
+parts_at : (unaries : List Unary) (level : ℕ) (t : Settlement) → IsUnderWay unaries level [] t → Parts t (Finite level)
+parts_at unaries level t way = record {
+  capped = way.level_small;
+  below = λ fact is. (let value = finite_is (cost_at t fact) (reached_small t fact is).1 in rw value (way.low fact is));
+  above = λ fact not_there kept. above fact (is_settled t fact) refl not_there kept;
+}
+  where
+    either : (b : Bool) → (true && b) ≡ false → (true && not b) ≡ false → ⊥
+    either true is out = let k : true ≡ false = is in cc
+    either false is out = let k : true ≡ false = out in cc
+
+    by_cost : (fact : ℕ) → is_settled t fact ≡ false → (b : Bool) → nat_le (cost_at t fact) 1000000000 ≡ b → IsAtMost (Finite level) (value_at t.costs fact)
+    by_cost fact new false large = rw (infinite_is (cost_at t fact) (large_cost (cost_at t fact) large)) tt
+    by_cost fact new true small =
+        let le : cost_at t fact ≤ 1000000000 = little (cost_at t fact) small in
+        let w = way.wanted fact new le in
+        let waits = way.waits w.place (cost_at t fact) w.waits in
+        rw (finite_is (cost_at t fact) le) waits.above
+      where
+        little : (n : ℕ) → nat_le n 1000000000 ≡ true → n ≤ 1000000000
+        little n h = grind (arith, nat_tests, h)
+
+    above : (fact : ℕ) (b : Bool) → is_settled t fact ≡ b → is_reached t fact ≡ false → is_left_out t fact ≡ false → IsAtMost (Finite level) (value_at t.costs fact)
+    above fact true is not_there kept = absurd (either (nat_le (cost_at t fact) 1000000000) (rw is at not_there) (rw is at kept))
+    above fact false is not_there kept = by_cost fact is (nat_le (cost_at t fact) 1000000000) refl
+
+-- A fact that is reached costs what it does by the rounds, also where others are not settled yet.
+pub reached_exact : (unaries : List Unary) (start without : List ℕ) (t : Settlement) (fact : ℕ) → is_reached t fact ≡ true → IsSettling unaries t → IsFrom unaries start without start t → IsLeast (λ n. add_round unaries start without n fact) (value_at t.costs fact)
+reached_exact unaries start without t fact is s from =
+    exact_where unaries start without s.level t (Finite s.level) fact (reached_bound t (Finite s.level) fact is) (parts_at unaries s.level t s.way) s.way from
+
+-- where none waits, what isn't reached is infinite
+pub idle_infinite : (unaries : List Unary) (t : Settlement) (fact : ℕ) → IsIdle t.waiting → is_reached t fact ≡ false → IsSettling unaries t → value_at t.costs fact ≡ Infinite
+idle_infinite unaries t fact idle not_there s = by_cost (nat_le (cost_at t fact) 1000000000) refl (is_settled t fact) refl
+  where
+    by_cost : (b : Bool) → nat_le (cost_at t fact) 1000000000 ≡ b → (a : Bool) → is_settled t fact ≡ a → value_at t.costs fact ≡ Infinite
+    by_cost false large a is = infinite_is (cost_at t fact) (large_cost (cost_at t fact) large)
+    by_cost true small true is = let k : true ≡ false = sym (rw (is, small) refl) ∙ not_there in absurd cc
+    by_cost true small false is =
+        let w = s.way.wanted fact is (little (cost_at t fact) small) in
+        let k : None ≡ Some (cost_at t fact) = sym (idle w.place) ∙ w.waits in
+        absurd cc
+      where
+        little : (n : ℕ) → nat_le n 1000000000 ≡ true → n ≤ 1000000000
+        little n h = grind (arith, nat_tests, h)
+
+-- Where none waits, all facts cost what they do by the rounds.
+pub idle_exact : (unaries : List Unary) (start without : List ℕ) (t : Settlement) → IsIdle t.waiting → IsSettling unaries t → IsFrom unaries start without start t → (fact : ℕ) → IsLeast (λ n. add_round unaries start without n fact) (value_at t.costs fact)
+idle_exact unaries start without t idle s from fact = exact_where unaries start without s.level t Infinite fact (same (is_reached t fact) (is_left_out t fact) refl) parts s.way from
+  where
+    same : (a b : Bool) → is_reached t fact ≡ a → (if a then value_at t.costs fact else (if b then Infinite else Infinite)) ≡ value_at t.costs fact
+    same true b is = refl
+    same false true is = sym (idle_infinite unaries t fact idle is s)
+    same false false is = sym (idle_infinite unaries t fact idle is s)
+
+    parts : Parts t Infinite
+    parts = record {
+      capped = tt;
+      below = λ f is. at_most_infinite (value_at t.costs f);
+      above = λ f not_there kept. rw (idle_infinite unaries t f idle not_there s) tt;
+    }
+
+-- those that settled a fact are best
+all_best : (unaries : List Unary) (level : ℕ) (t : Settlement) (order : List ℕ) → ((place : ℕ) → is_among order place ≡ true → HasSettled unaries t place) → IsUnderWay unaries level [] t → (are_places (length unaries) order ≡ true) × AreBest unaries (value_at t.costs) (chosen unaries order)
+all_best unaries level t [] each way = (refl, tt)
+all_best unaries level t (i ∷ order) each way =
+    let here = each i (among i) in
+    let rest = all_best unaries level t order (λ place is. each place (later place is)) way in
+    let lt : nat_lt i (length unaries) ≡ true = below i (length unaries) (slice_get_within unaries i here.unary here.at) in
+    let small = reached_small t here.unary.gives here.reached in
+    let count = (way.each i here.unary here.at).count in
+    let none = here.none_open in
+    let asks = price_sum unaries level i t here.unary here.at (all_reached (is_reached t) here.unary.conds (omega (arith, count, none))) way in
+    let value : value_at t.costs here.unary.gives ≡ Finite (cost_at t here.unary.gives) = finite_is (cost_at t here.unary.gives) small.1 in
+    let best : IsBest unaries (value_at t.costs) here.unary = record { place = i; at = here.at; finite = ap is_finite value; pays = asks.1 ∙ (ap (λ (n : ℕ). Finite n) (sym here.pays) ∙ sym value) } in
+    (rw lt rest.0, rw here.at (best, rest.1))
+  where
+    self : (n : ℕ) → nat_eq n n ≡ true
+    self n = grind (arith, nat_tests)
+
+    below : (m n : ℕ) → m < n → nat_lt m n ≡ true
+    below m n h = grind (arith, nat_tests)
+
+    among : (i : ℕ) → is_among (i ∷ order) i ≡ true
+    among i = rw (self i) refl
+
+    later : (place : ℕ) → is_among order place ≡ true → is_among (i ∷ order) place ≡ true
+    later place is = by_test (nat_eq place i)
+      where
+        by_test : (b : Bool) → (b || is_among order place) ≡ true
+        by_test true = refl
+        by_test false = is
+
+pub order_of : (unaries : List Unary) (start : List ℕ) (t : Settlement) → IsIdle t.waiting → IsSettling unaries t → IsFrom unaries start [] start t → IsOrder unaries start (value_at t.costs) t.order
+order_of unaries start t idle s from =
+    let best = all_best unaries s.level t t.order s.way.settled_by s.way in
+    record {
+      places = best.0;
+      best = best.1;
+      in_order = from.in_order;
+      given = λ fact finite. given fact finite (is_reached t fact) refl;
+    }
+  where
+    and_true : (b : Bool) → (b && true) ≡ true → b ≡ true
+    and_true true h = refl
+    and_true false h = h
+
+    given : (fact : ℕ) → is_finite (value_at t.costs fact) ≡ true → (b : Bool) → is_reached t fact ≡ b → is_among (start ++ given_by (chosen unaries t.order)) fact ≡ true
+    given fact finite true is = and_true (is_among (start ++ given_by (chosen unaries t.order)) fact) (sym (from.reached fact) ∙ is)
+    given fact finite false is = let k : false ≡ true = sym (ap is_finite (idle_infinite unaries t fact idle is s)) ∙ finite in absurd cc
+
+pub places_of : (unaries : List Unary) (t : Settlement) → IsSettling unaries t → are_places (length unaries) t.order ≡ true
+places_of unaries t s = (all_best unaries s.level t t.order s.way.settled_by s.way).0

@@ -1,6 +1,0 @@
-use Rattle.h_add.specs.Values.{value_at}
-use Rattle.h_add.proofs.Summing.{IsSumSoFar}
-use Rattle.h_add.proofs.pricing.total.Given as goal
-
-abbrev pub invariant-loop-fact : goal.invariant-loop-fact
-invariant-loop-fact l = IsSumSoFar (value_at l.costs) l.facts l.fact-index l.sum

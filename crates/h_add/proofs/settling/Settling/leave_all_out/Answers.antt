@@ -1,0 +1,28 @@
+use Rattle.std.proofs.Common.{◌≡◌, ◌<◌, ◌∙◌, ap, subst, sym, ℕ, List, length, map, take, get_or, refl, arith}
+use Rattle.std.proofs.lemmas.List.{length-map, take_all}
+use Rattle.relaxed_task.specs.Numbers.{number_by, is_among}
+use Rattle.h_add.specs.Settlements.{is_settled}
+use Rattle.h_add.proofs.Growing.{below_at}
+use Rattle.h_add.proofs.Starting.{out_more, map_read}
+use Rattle.h_add.proofs.settling.Settling.leave_all_out.Goals as goal
+
+pub loop-fact-init : goal.loop-fact-init
+loop-fact-init c = record { fresh = λ unaries f. f; out = λ below none fact. none fact; long = refl }
+
+pub loop-fact-preserved : goal.loop-fact-preserved
+loop-fact-preserved c = record {
+  fresh = λ unaries f. c.leave_out.ensures.fresh unaries (c.loop-fact.invariant.fresh unaries f);
+  out = λ below none.
+      (let lt : c.loop-fact.fact-index < length c.args.excluded.now = omega arith in
+      let within : c.loop-fact.fact-index < length (map (number_by c.args.network.now.offsets) c.args.excluded.now) = omega (arith, length-map c.args.excluded.now (number_by c.args.network.now.offsets)) in
+      let at = (rw c.relaxed.ensures at c.number.ensures) ∙ (map_read (number_by c.args.network.now.offsets) c.args.excluded.now c.loop-fact.fact-index _ lt) in
+      let there = below_at _ _ _ _ below within at in
+      out_more (map (number_by c.args.network.now.offsets) c.args.excluded.now) _ _ c.loop-fact.fact-index c.number.result within at (omega (arith, there, c.leave_out.ensures.facts, c.loop-fact.invariant.long))
+      (c.leave_out.ensures.out (omega (arith, there, c.loop-fact.invariant.long))) (c.loop-fact.invariant.out below none));
+  long = c.leave_out.ensures.long ∙ c.loop-fact.invariant.long;
+}
+
+pub returns-clause-out : goal.returns-clause-out
+returns-clause-out c below none fact =
+    c.loop-fact.invariant.out below none fact
+    ∙ ap (λ (xs : List ℕ). is_among xs fact) (take_all c.loop-fact.fact-index (map (number_by c.args.network.now.offsets) c.args.excluded.now) (omega (arith, length-map c.args.excluded.now (number_by c.args.network.now.offsets))))

@@ -1,0 +1,135 @@
+// The unary operators of a relaxation in flat tables.
+ghost use Rattle.std.specs.Prelude.{◌≡◌, ◌+◌, ◌<◌, ◌≤◌, ◌^◌, ℕ, length, map, IfOk, IsTrue, slice_get, Some};
+ghost use Rattle.std.specs.List.{list_all};
+ghost use Rattle.relaxed_task.specs.declared.unary.Unary.{Unary as TheUnary};
+ghost use Rattle.relaxed_task.specs.Numbers.{is_unary_below};
+ghost use Rattle.h_add.specs.Networks.{IsNeededBy, AreFree, are_within, open_at_start};
+
+use crate::needs::needs_of;
+use lama_num::{LARGEST_ESTIMATE, NoMemory, Rows};
+use relaxed_task::{Relaxed, Unary};
+use std::alloc::{AllocError, Global};
+use std::marker::Model;
+
+/// The conditions of a unary operator that aren't reached yet, and what it costs with the others.
+#[derive(Clone, Copy, Debug)]
+pub struct Open {
+    pub count: u32,
+    pub sum: u32,
+}
+
+/// A relaxation with its unary operators in tables, for loops over them. Contracts see the relaxation.
+#[derive(Debug, Drop)]
+pub struct Network {
+    relaxed: Relaxed,
+    /// What each gives.
+    gives: Vec<u32>,
+    /// What each has open when nothing is reached.
+    opens: Vec<Open>,
+    /// For each fact those that need it, and last those without conditions.
+    needs: Rows<u32>,
+}
+
+impl Model for Network {
+    ghost use Rattle.relaxed_task.specs.declared.relaxation.Lists.{Lists};
+
+    ghost Value = { Lists };
+
+    ghost use Rattle.h_add.specs.Tables.{AreTables};
+
+    ghost view = { λ n. n.relaxed };
+
+    ghost invariant = { λ n. AreTables n.relaxed n.gives.items n.opens.items n.needs };
+}
+
+fn gives_of(alloc: Global, unaries: &[Unary]) -> Result<Vec<u32>, AllocError>
+    ensures { IfOk result (λ v. v.items ≡ map (λ u. u.gives) unaries.now) }
+{
+    unaries.iter().map(|unary| unary.gives).collect(alloc)
+}
+
+/// What is open of a unary operator. Conditions are counted with 32 bits: where there are more, there
+/// is no memory for them.
+fn open_of(unary: &Unary) -> Result<Open, NoMemory>
+    ensures { IfOk result (λ counts. counts ≡ open_at_start unary.now) }
+{
+    if unary.conds.len() >= 4_294_967_296 {
+        return Err(NoMemory);
+    }
+    Ok(Open {
+        count: (unary.conds.len() as u32).max(1),
+        sum: unary.cost.min(LARGEST_ESTIMATE),
+    })
+}
+
+fn opens_of(alloc: Global, unaries: &[Unary]) -> Result<Vec<Open>, NoMemory>
+    ensures { IfOk result (λ v. v.items ≡ map open_at_start unaries.now) }
+{
+    let mut opens = Vec::with_capacity(alloc, unaries.len())?;
+    for unary in unaries {
+        let open = open_of(unary)?;
+        opens.push(open)?;
+    }
+    Ok(opens)
+}
+
+impl Network {
+    /// The tables of a relaxation.
+    pub fn new(alloc: Global, relaxed: Relaxed) -> Result<Network, NoMemory>
+        ensures { IfOk result (λ network. network ≡ relaxed) }
+    {
+        // They are numbered with 32 bits: where there are more, there is no memory for them.
+        if relaxed.unary().len() >= 4_294_967_296 {
+            return Err(NoMemory);
+        }
+        let gives = gives_of(alloc, relaxed.unary())?;
+        let opens = opens_of(alloc, relaxed.unary())?;
+        let needs = needs_of(alloc, relaxed.unary(), relaxed.facts())?;
+        Ok(Network {
+            relaxed,
+            gives,
+            opens,
+            needs,
+        })
+    }
+
+    pub fn relaxed(&self) -> &Relaxed
+        ensures { result.now ≡ self.now }
+    {
+        &self.relaxed
+    }
+
+    /// What a unary operator gives.
+    pub fn gives(&self, place: usize) -> u32
+        requires { place < length self.now.unaries }
+        ensures gives { (u : TheUnary) → slice_get self.now.unaries place ≡ Some u → result ≡ u.gives }
+        ensures below { result < self.now.facts }
+    {
+        self.gives[place]
+    }
+
+    /// The unary operators that need a fact: each as often as the fact stands among its conditions.
+    pub fn needs(&self, fact: usize) -> &[u32]
+        requires { fact < self.now.facts }
+        ensures needs { IsNeededBy self.now.unaries self.now.facts fact result.now }
+        ensures within { IsTrue (are_within (length self.now.unaries) result.now) }
+    {
+        self.needs.row(fact)
+    }
+
+    /// The unary operators without conditions.
+    pub fn free(&self) -> &[u32]
+        ensures free { AreFree self.now.unaries result.now }
+        ensures within { IsTrue (are_within (length self.now.unaries) result.now) }
+    {
+        self.needs.row(self.relaxed.facts() as usize)
+    }
+
+    /// Opens all conditions.
+    pub fn open_all(&self, opens: &mut [Open])
+        requires { length opens.old ≡ length self.now.unaries }
+        ensures { opens.new ≡ map open_at_start self.now.unaries }
+    {
+        opens.copy_from_slice(&self.opens);
+    }
+}
