@@ -7,7 +7,7 @@ use std::test::Fail;
 use test_tasks::{door, rivals};
 
 #[test]
-fn the_lowest_numbered_of_equal_supporters(rt: HostRuntime) -> Result<(), Fail> {
+fn one_of_two_equal_supporters(rt: HostRuntime) -> Result<(), Fail> {
     let Ok(task) = check(moves(rt.alloc(), 0, 3, 2)?) else {
         return Err(Fail::from("refused"));
     };
