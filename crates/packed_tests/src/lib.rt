@@ -3,5 +3,3 @@
 
 #[cfg(test)]
 mod packing;
-#[cfg(test)]
-mod visited;

@@ -39,14 +39,13 @@ fn is_found(found: &Found, words: usize, state: &[u32]) -> bool {
     found.words == words && found.state.as_slice() == state && found.last == state.last().copied()
 }
 
-/// So many variables of a thousand values each, which take 10 bits a variable. The initial values
-/// end with 999.
-pub fn wide(alloc: Global, count: u32) -> Result<Parts, AllocError> {
+/// Seven variables of a thousand values each, which take 70 bits.
+fn seven_wide(alloc: Global) -> Result<Parts, AllocError> {
     let mut variables = Seq::new(alloc);
     let mut init = Seq::new(alloc);
-    for value in 0..count {
+    for value in 0..7u32 {
         variables.push(variable(alloc, None, 1000)?)?;
-        init.push(999u32.saturating_sub(count - 1 - value))?;
+        init.push(993 + value)?;
     }
     Ok(Parts {
         metric: false,
@@ -62,18 +61,11 @@ pub fn wide(alloc: Global, count: u32) -> Result<Parts, AllocError> {
 #[test]
 fn initial_values_are_read_again(rt: HostRuntime) -> Result<(), Fail> {
     let alloc = rt.alloc();
-    let Ok(small) = read(alloc, three_places().as_bytes()) else {
-        return Err(Fail::from("refused"));
-    };
-    assert!(rt; is_found(&packed_and_read(alloc, &small)?, 1, &[0]));
-    let Ok(derived) = read(alloc, two_layers().as_bytes()) else {
-        return Err(Fail::from("refused"));
-    };
-    assert!(rt; is_found(&packed_and_read(alloc, &derived)?, 1, &[0, 0, 0]));
-    let Ok(wide) = check(wide(alloc, 7)?) else {
-        return Err(Fail::from("refused"));
-    };
-    let values = [993, 994, 995, 996, 997, 998, 999];
-    assert!(rt; is_found(&packed_and_read(alloc, &wide)?, 2, &values));
+    let small = packed_and_read(alloc, &read(alloc, three_places().as_bytes())?)?;
+    assert!(rt; is_found(&small, 1, &[0]));
+    let derived = packed_and_read(alloc, &read(alloc, two_layers().as_bytes())?)?;
+    assert!(rt; is_found(&derived, 1, &[0, 0, 0]));
+    let wide = packed_and_read(alloc, &check(seven_wide(alloc)?)?)?;
+    assert!(rt; is_found(&wide, 2, &[993, 994, 995, 996, 997, 998, 999]));
     Ok(())
 }

@@ -1,11 +1,4 @@
-pub mod Chosen
-pub mod Ends
-pub mod Faults
-pub mod Firsts
+pub mod Choices
 pub mod Good
-pub mod Layering
-pub mod Leading
 pub mod Naming
-pub mod Reaching
-pub mod Telling
-pub mod Vectors
+pub mod Plans

@@ -1,11 +1,13 @@
 // The operators of a task by their names.
 ghost use Rattle.std.specs.Prelude.{◌≡◌, ◌≤◌, length, IfOk};
-ghost use Rattle.std.specs.List.{list_any};
+ghost use Rattle.state_step.specs.Stepper.{IsFor};
 ghost use Rattle.plan_check.specs.Names.{IsIndexOf};
-ghost use Rattle.plan_check.specs.Choices.{has_name};
+ghost use Rattle.plan_check.specs.Verdicts.{choice as the_choice, no_choice as the_fault};
 
+use crate::verdicts::PlanFault;
 use lama_num::NoMemory;
-use sas_task::Operator;
+use sas_task::{Operator, Task};
+use state_step::Stepper;
 use std::alloc::Global;
 use std::collections::HashMap;
 
@@ -31,11 +33,32 @@ impl<'a> ByName<'a> {
         Ok(ByName { first, next })
     }
 
-    /// Whether an operator has the name.
-    pub fn has(&self, operators: &[Operator], name: &[u8]) -> bool
-        requires { IsIndexOf self.now operators.now }
-        ensures { result ≡ list_any (has_name name.now) operators.now }
+    /// The operator for a name in a state: the lowest that has the name and is applicable.
+    pub fn choice(&self, task: &Task, stepper: &Stepper, state: &[u32], name: &[u8]) -> Option<u32>
+        requires index { IsIndexOf self.now task.now.operators }
+        requires same_task { IsFor stepper.now task.now }
+        requires long { length state.now ≡ length task.now.variables }
+        ensures { result ≡ the_choice task.now state.now name.now }
     {
-        self.first.contains_key(name)
+        let mut at = self.first.get(name).copied();
+        while let Some(op) = at {
+            if stepper.applicable(task, state, op) {
+                return Some(op);
+            }
+            at = self.next[op as usize];
+        }
+        None
+    }
+
+    /// What is wrong at a step for whose name nothing can be chosen.
+    pub fn no_choice(&self, task: &Task, step: u32, name: &[u8]) -> PlanFault
+        requires index { IsIndexOf self.now task.now.operators }
+        ensures { result ≡ the_fault task.now step name.now }
+    {
+        if self.first.contains_key(name) {
+            PlanFault::NotApplicable { step }
+        } else {
+            PlanFault::NoOperator { step }
+        }
     }
 }

@@ -11,16 +11,13 @@ pub enum PlanFault {
     NoOperator { step: u32 },
     /// No operator of that name is applicable after the steps before.
     NotApplicable { step: u32 },
-    /// There are too many pairs of last state and cost after the step, or up to it.
-    TooMany { step: u32 },
-    /// No choice of operators leads to a goal.
+    /// The last state isn't a goal.
     NoGoal,
     /// The file tells another kind of cost than the task has.
     WrongKind,
-    /// No choice of operators is a plan of the cost that the file tells; the least cost of one that
-    /// leads to a goal is `real`.
+    /// The file tells another cost.
     WrongCost { real: u64 },
-    /// The cost that the file tells isn't below the bound.
+    /// The cost isn't below the bound.
     NotCheaper { real: u64, bound: u64 },
 }
 

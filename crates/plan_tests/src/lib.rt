@@ -2,8 +2,6 @@
 #![tactic(auto)]
 
 #[cfg(test)]
-mod tasks;
-#[cfg(test)]
 mod texts;
 #[cfg(test)]
 mod verdicts;
