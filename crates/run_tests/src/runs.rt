@@ -105,20 +105,29 @@ fn is_over(ends: &[EntryEnd], began: u64) -> bool {
     }
 }
 
+/// Whether the one plan kept of a run on a task is these operators at that cost, found by this
+/// process in the entry that began at 9, of a run that began at 7.
+fn tells_of_plan(alloc: Global, task: &str, ops: &[u32], cost: u64) -> Result<bool, NoMemory> {
+    let report = report_on(alloc, task)?;
+    let is_timed = report.start == 7 && is_over(&report.ends, 9);
+    Ok(is_timed && is_kept(&report, ops, cost) && is_own_plan(&report))
+}
+
+/// Whether a run on a task has no plan and no candidate, and exhausted so many states.
+fn tells_of_space(alloc: Global, task: &str, states: u32) -> Result<bool, NoMemory> {
+    let report = report_on(alloc, task)?;
+    let is_empty = report.kept.is_empty() && report.candidates.is_empty();
+    Ok(is_empty && states_of(&report.ends) == Some(states))
+}
+
 #[test]
 fn reports_tell_what_happened(rt: HostRuntime) -> Result<(), Fail> {
-    let report = report_on(rt.alloc(), three_places())?;
-    assert!(rt; is_kept(&report, &[2], 5) && is_own_plan(&report));
-    assert!(rt; report.start == 7 && is_over(&report.ends, 9));
-    let report = report_on(rt.alloc(), door())?;
-    assert!(rt; is_kept(&report, &[0, 1], 2));
-    let report = report_on(rt.alloc(), at_the_goal())?;
-    assert!(rt; is_kept(&report, &[], 0));
-    let report = report_on(rt.alloc(), no_operator())?;
-    assert!(rt; report.kept.is_empty() && report.candidates.is_empty());
-    assert!(rt; states_of(&report.ends) == Some(1));
-    let report = report_on(rt.alloc(), rivals())?;
-    assert!(rt; states_of(&report.ends) == Some(3));
+    let alloc = rt.alloc();
+    assert!(rt; tells_of_plan(alloc, three_places(), &[2], 5)?);
+    assert!(rt; tells_of_plan(alloc, door(), &[0, 1], 2)?);
+    assert!(rt; tells_of_plan(alloc, at_the_goal(), &[], 0)?);
+    assert!(rt; tells_of_space(alloc, no_operator(), 1)?);
+    assert!(rt; tells_of_space(alloc, rivals(), 3)?);
     Ok(())
 }
 
