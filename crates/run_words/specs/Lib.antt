@@ -1,0 +1,5 @@
+pub mod Command
+pub mod Grammar
+pub mod OwnNames
+pub mod Requests
+pub mod Seen
