@@ -1,3 +1,4 @@
+pub mod Accepted
 pub mod Command
 pub mod Grammar
 pub mod OwnNames

@@ -1,8 +1,9 @@
 // The values of a line.
-ghost use Rattle.std.specs.Prelude.{◌≡◌, ◌*◌, ◌≤◌, IfSome, codes, option_and_then, option_map, unwrap_or};
+ghost use Rattle.std.specs.Prelude.{◌≡◌, ◌*◌, ◌≤◌, IfOk, IfSome, codes, is_some, option_and_then, option_map, unwrap_or};
 ghost use Rattle.lama_num.specs.Decimals.{decimal_of};
 ghost use Rattle.lama_num.specs.Names.{base_of};
 ghost use Rattle.run_words.specs.Requests.{needed as value_needed, wanted, up_to as the_number_up_to, number_to as the_number, unit_of, seconds_of, limit_of, kib_of, refused_if, is_no_name, values_of};
+ghost use Rattle.run_words.specs.Accepted.{IsBase, IsLimit, IsMade, IsMemory, AreWithin};
 ghost use Rattle.run_words.specs.Seen.{seen, text_of};
 ghost use Rattle.run_words.specs.declared.faults.Opt.TheVariants.{PlanFile, Bound, TimeLimit, ChildMemory, Gen};
 ghost use Rattle.run_words.specs.declared.faults.WordsFault.TheVariants.{BadValue};
@@ -25,7 +26,7 @@ pub struct Values {
 
 fn up_to(most: u64, n: u64) -> Option<u64>
     ensures same { result ≡ the_number_up_to most n }
-    ensures most { IfSome result (λ n. n ≤ most) }
+    ensures within { IfSome result (λ n. (1 ≤ n) × (n ≤ most)) }
 {
     if 1 <= n && n <= most { Some(n) } else { None }
 }
@@ -33,7 +34,7 @@ fn up_to(most: u64, n: u64) -> Option<u64>
 // A decimal from 1 to `most`.
 fn number_to(most: u64, text: &str) -> Option<u64>
     ensures same { result ≡ the_number most text.now }
-    ensures most { IfSome result (λ n. n ≤ most) }
+    ensures within { IfSome result (λ n. (1 ≤ n) × (n ≤ most)) }
 {
     up_to(most, read_decimal(text.as_bytes())?)
 }
@@ -54,14 +55,14 @@ fn unit(letter: u8) -> Option<u64>
 fn seconds_in(digits: &[u8], unit: u64) -> Option<u64>
     ensures same { result
         ≡ option_and_then (the_number_up_to 1000000) (option_map (λ n. n * unit) (decimal_of digits.now)) }
-    ensures most { IfSome result (λ n. n ≤ 1000000) }
+    ensures within { IfSome result (λ n. (1 ≤ n) × (n ≤ 1000000)) }
 {
     up_to(1_000_000, read_decimal(digits)?.checked_mul(unit)?)
 }
 
 fn seconds(text: &[u8]) -> Option<u64>
     ensures same { result ≡ option_and_then (the_number_up_to 1000000) (seconds_of text.now) }
-    ensures most { IfSome result (λ n. n ≤ 1000000) }
+    ensures within { IfSome result (λ n. (1 ≤ n) × (n ≤ 1000000)) }
 {
     let (last, front) = text.split_last()?;
     match unit(*last) {
@@ -71,19 +72,22 @@ fn seconds(text: &[u8]) -> Option<u64>
 }
 
 fn milliseconds(text: &str) -> Option<u64>
-    ensures { result ≡ limit_of text.now }
+    ensures same { result ≡ limit_of text.now }
+    ensures within { IfSome result IsLimit }
 {
     Some(seconds(text.as_bytes())? * 1000)
 }
 
 fn kib(text: &str) -> Option<u32>
-    ensures { result ≡ kib_of text.now }
+    ensures same { result ≡ kib_of text.now }
+    ensures within { IfSome result IsMemory }
 {
     Some((number_to(1_048_576, text)? * 1024) as u32)
 }
 
 fn packages(text: &str) -> Option<u32>
-    ensures { result ≡ the_number 100 text.now }
+    ensures same { result ≡ the_number 100 text.now }
+    ensures within { IfSome result IsMade }
 {
     Some(number_to(100, text)? as u32)
 }
@@ -95,7 +99,9 @@ fn needed<T>(opt: Opt, value: Option<T>) -> Result<T, WordsFault>
 }
 
 fn base(text: Option<&str>) -> Result<NameBuf, WordsFault>
-    ensures { result ≡ value_needed PlanFile (base_of (unwrap_or (text_of text.entry) (codes "sas_plan"))) }
+    ensures same { result
+        ≡ value_needed PlanFile (base_of (unwrap_or (text_of text.entry) (codes "sas_plan"))) }
+    ensures within { IfOk result IsBase }
 {
     needed(Opt::PlanFile, NameBuf::new(text.unwrap_or("sas_plan")))
 }
@@ -110,7 +116,8 @@ fn bound(text: Option<&str>) -> Result<Option<u64>, WordsFault>
 }
 
 fn limit(text: Option<&str>) -> Result<Option<u64>, WordsFault>
-    ensures { result ≡ wanted TimeLimit limit_of (text_of text.entry) }
+    ensures same { result ≡ wanted TimeLimit limit_of (text_of text.entry) }
+    ensures within { IfOk result (λ limit. IfSome limit IsLimit) }
 {
     match text {
         None => Ok(None),
@@ -119,7 +126,8 @@ fn limit(text: Option<&str>) -> Result<Option<u64>, WordsFault>
 }
 
 fn child_kib(text: Option<&str>) -> Result<Option<u32>, WordsFault>
-    ensures { result ≡ wanted ChildMemory kib_of (text_of text.entry) }
+    ensures same { result ≡ wanted ChildMemory kib_of (text_of text.entry) }
+    ensures within { IfOk result (λ kib. IfSome kib IsMemory) }
 {
     match text {
         None => Ok(None),
@@ -128,7 +136,9 @@ fn child_kib(text: Option<&str>) -> Result<Option<u32>, WordsFault>
 }
 
 fn made(text: Option<&str>) -> Result<Option<u32>, WordsFault>
-    ensures { result ≡ wanted Gen (the_number 100) (text_of text.entry) }
+    ensures same { result ≡ wanted Gen (the_number 100) (text_of text.entry) }
+    ensures within { IfOk result (λ made. IfSome made IsMade) }
+    ensures given { IfOk result (λ made. is_some made ≡ is_some text.entry) }
 {
     match text {
         None => Ok(None),
@@ -148,7 +158,9 @@ fn file_name(opt: Opt, name: Option<&str>) -> Result<(), WordsFault>
 /// The values of a line, or the first that can't be read or is out of range.
 #[tactic(auto, unfolding(crate::specs::Requests::values_of))]
 pub fn read_values(given: &Given) -> Result<Values, WordsFault>
-    ensures { result ≡ values_of (seen given.now) }
+    ensures same { result ≡ values_of (seen given.now) }
+    ensures within { IfOk result AreWithin }
+    ensures made { IfOk result (λ values. is_some values.made ≡ is_some (seen given.now).made) }
 {
     let base = base(given.plan_file)?;
     let bound = bound(given.bound)?;
