@@ -1,0 +1,14 @@
+//! Graphs of landmarks: nodes, which are small sets of facts, and at most one order from a node to
+//! another.
+#![tactic(auto)]
+
+mod graph;
+mod nodes;
+mod orders;
+mod reach;
+mod rows;
+
+pub use graph::{Graph, MOST_NODES};
+pub use nodes::{Added, Node};
+pub use orders::{Edge, Order};
+pub use rows::Row;
