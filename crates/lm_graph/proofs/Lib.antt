@@ -1,0 +1,9 @@
+pub mod Contents
+pub mod Edges
+pub mod Lists
+pub mod Looking
+pub mod Marking
+pub mod Numbering
+pub mod Places
+pub mod Strengths
+pub mod Turning

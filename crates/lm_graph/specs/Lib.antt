@@ -1,0 +1,9 @@
+pub mod FactTables
+pub mod Graphs
+pub mod Keys
+pub mod Marks
+pub mod Nodes
+pub mod Orders
+pub mod Paths
+pub mod Rows
+pub mod Turned

@@ -1,0 +1,6 @@
+pub mod Afters
+pub mod Bits
+pub mod Loops
+pub mod Ranges
+pub mod Sums
+pub mod Tables

@@ -1,0 +1,5 @@
+pub mod Accepted
+pub mod Estimates
+pub mod Preferred
+pub mod Rows
+pub mod Statuses
