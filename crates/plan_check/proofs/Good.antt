@@ -1,127 +1,128 @@
 -- A good file shows a plan.
-use Rattle.std.proofs.Common.{◌≡◌, ap, refl, subst, arith, ℕ, ◌<◌, List, [], length, get_or, Bool, true, false, Option, Some, None, Result, Ok, Err, nat_eq, nat_lt}
-use Rattle.std.specs.Prelude.{IfSome, slice_index, not, if◌then◌else◌}
-use Rattle.std.specs.Option.{option_map_or}
+use Rattle.std.proofs.Common.{◌≡◌, ◌∙◌, ap, refl, sym, subst, arith, ℕ, ◌<◌, List, length, Bool, true, false, Option, Some, None, Result, Ok, Err, nat_eq, nat_lt}
+use Rattle.std.specs.Prelude.{IfSome, not, if◌then◌else◌}
 use Rattle.std.proofs.lemmas.Bool.Decides.{nat_tests}
-use Rattle.std.proofs.lemmas.Option.{slice_get_within, slice_get-get_or}
 use Rattle.lama_num.specs.Gives.{◌>>=◌}
+use Rattle.lama_num.specs.Lists.{both}
 use Rattle.sas_task.specs.declared.contents.Parts.{Parts}
-use Rattle.sas_task.specs.Runs.{IsPlan, start_of, end_of, is_goal, cost_of}
+use Rattle.sas_task.specs.Runs.{start_of, cost_of}
 use Rattle.sas_task.specs.Costs.{is_unit_cost}
 use Rattle.plan_text.specs.PlanLines.{plan_lines_of}
 use Rattle.plan_text.specs.declared.reading.PlanLines.{PlanLines}
-use Rattle.plan_check.specs.Choices.{AreChosen}
-use Rattle.plan_check.specs.ChoiceLaws.{chosen_from-are, prefix-leads}
-use Rattle.plan_check.specs.GoodPlans.{IsGoodPlan, IsJudged}
-use Rattle.plan_check.specs.Verdicts.{chosen, only_if, cheaper, compared, reaches_goal, as_text, as_verdict, plan_in, plan_of}
+use Rattle.plan_text.specs.declared.faults.PlanTextFault.{PlanTextFault}
+use Rattle.plan_check.specs.Choices.{choices}
+use Rattle.plan_check.specs.GoodPlans.{IsGoodPlan}
+use Rattle.plan_check.specs.Verdicts.{unless, only_if, or_fault, cheaper, compared, reaches_goal, is_plan_at, first_fault, first_plan, least_cost, last_state, as_text, plan_in, plan_of}
 use Rattle.plan_check.specs.declared.verdicts.PlanFault.{PlanFault}
-use Rattle.plan_check.specs.declared.verdicts.PlanFault.TheVariants.{NoGoal, WrongKind, WrongCost, NotCheaper}
+use Rattle.plan_check.specs.declared.verdicts.PlanFault.TheVariants.{NoGoal, WrongKind, WrongCost, NotCheaper, Text}
+use Rattle.plan_check.proofs.Chosen.{AreTaken, choices-taken, find_each, taken_choice, taken_leads, taken_long, taken_within}
 
--- what a comparison without a fault tells
-record Agrees (goal unit : Bool) (cost : ℕ) (bound : Option ℕ) (lines : PlanLines) : Type 0 where
-  goal_is : goal ≡ true
-  kind_is : lines.unit ≡ unit
-  told : lines.cost ≡ cost
-  cheaper : IfSome bound (λ limit. cost < limit)
+abbrev Gives : {A : Type 0} → Result A PlanFault → A → Type 0
+Gives {A} r x = ◌≡◌ {A = Result A PlanFault} r (Ok x)
 
-abbrev Fine : Result (Unit {0}) PlanFault → Type 0
-Fine r = ◌≡◌ {A = Result (Unit {0}) PlanFault} r (Ok tt)
+-- what went well went well in each part
+record Then {A B : Type 0} (r : Result A PlanFault) (f : A → Result B PlanFault) (y : B) : Type 0 where
+  first : A
+  gives : Gives r first
+  rest : Gives (f first) y
 
-cheaper_is : (bound : Option ℕ) (cost : ℕ) → Fine (cheaper bound cost) → IfSome bound (λ limit. cost < limit)
-cheaper_is None cost is = tt
-cheaper_is (Some limit) cost is =
-    elim (nat_lt cost limit) as (λ b. nat_lt cost limit ≡ b → Fine (only_if b (NotCheaper cost limit)) → cost < limit) [
-      | true ↦ λ at e. grind (arith, nat_tests, at)
-      | false ↦ λ at e. let k : ◌≡◌ {A = Result (Unit {0}) PlanFault} (Err (NotCheaper cost limit)) (Ok tt) = e in cc
-    ] refl is
+then_ok : {A B : Type 0} (r : Result A PlanFault) (f : A → Result B PlanFault) (y : B) → Gives (r >>= f) y → Then r f y
+then_ok (Ok x) f y is = record { first = x; gives = refl; rest = is }
+then_ok {B} (Err fault) f y is = let clash : ◌≡◌ {A = Result B PlanFault} (Err fault) (Ok y) = is in cc
 
-told_is : (cost : ℕ) (bound : Option ℕ) (lines : PlanLines) → Fine (only_if (nat_eq lines.cost cost) (WrongCost cost) >>= λ told. cheaper bound cost) → (lines.cost ≡ cost) × IfSome bound (λ limit. cost < limit)
-told_is cost bound lines is =
-    elim (nat_eq lines.cost cost) as (λ b. nat_eq lines.cost cost ≡ b → Fine (only_if b (WrongCost cost) >>= λ told. cheaper bound cost) → (lines.cost ≡ cost) × IfSome bound (λ limit. cost < limit)) [
-      | true ↦ λ at e. (grind (arith, nat_tests, at), cheaper_is bound cost e)
-      | false ↦ λ at e. let k : ◌≡◌ {A = Result (Unit {0}) PlanFault} (Err (WrongCost cost)) (Ok tt) = e in cc
-    ] refl is
+or_fault_ok : {A : Type 0} (fault : PlanFault) (o : Option A) (x : A) → Gives (or_fault fault o) x → o ≡ Some x
+or_fault_ok {A} fault None x is = let clash : ◌≡◌ {A = Result A PlanFault} (Err fault) (Ok x) = is in cc
+or_fault_ok {A} fault (Some y) x is = let same : ◌≡◌ {A = Result A PlanFault} (Ok y) (Ok x) = is in let eq : y ≡ x = cc in ap (λ z. Some z) eq
+
+only_if_ok : (b : Bool) (fault : PlanFault) (x : Unit {0}) → Gives (only_if b fault) x → b ≡ true
+only_if_ok true fault x is = refl
+only_if_ok false fault x is = let clash : ◌≡◌ {A = Result (Unit {0}) PlanFault} (Err fault) (Ok x) = is in cc
+
+cheaper_ok : (bound : Option ℕ) (cost : ℕ) (x : Unit {0}) → Gives (cheaper bound cost) x → IfSome bound (λ limit. cost < limit)
+cheaper_ok None cost x is = tt
+cheaper_ok (Some limit) cost x is = let test : nat_lt cost limit ≡ true = only_if_ok (nat_lt cost limit) (NotCheaper cost limit) x is in grind (arith, nat_tests, test)
 
 same_kind : (unit told : Bool) → (if unit then told else not told) ≡ true → told ≡ unit
 same_kind true told is = is
 same_kind false true is = let k : false ≡ true = is in cc
 same_kind false false is = refl
 
-agrees : (goal unit : Bool) (cost : ℕ) (bound : Option ℕ) (lines : PlanLines) → Fine (compared goal unit cost bound lines) → Agrees goal unit cost bound lines
-agrees false unit cost bound lines is = let k : ◌≡◌ {A = Result (Unit {0}) PlanFault} (Err NoGoal) (Ok tt) = is in cc
-agrees true unit cost bound lines is =
-    elim (if unit then lines.unit else not lines.unit) as (λ b. (if unit then lines.unit else not lines.unit) ≡ b → Fine (only_if b WrongKind >>= λ kind. only_if (nat_eq lines.cost cost) (WrongCost cost) >>= λ told. cheaper bound cost) → Agrees true unit cost bound lines) [
-      | true ↦ λ at e. let rest = told_is cost bound lines e in record { goal_is = refl; kind_is = same_kind unit lines.unit at; told = rest.0; cheaper = rest.1 }
-      | false ↦ λ at e. let k : ◌≡◌ {A = Result (Unit {0}) PlanFault} (Err WrongKind) (Ok tt) = e in cc
-    ] refl is
+-- what a comparison without a fault tells
+record Agrees (unit : Bool) (plan : Option (List ℕ)) (bound : Option ℕ) (lines : PlanLines) (ops : List ℕ) : Type 0 where
+  plan_is : plan ≡ Some ops
+  kind_is : lines.unit ≡ unit
+  cheaper : IfSome bound (λ limit. lines.cost < limit)
 
--- operators that reach the goal
-plan_is : (parts : Parts) (ops : List ℕ) → reaches_goal parts ops ≡ true → IsPlan parts ops
-plan_is parts ops is =
-    elim (end_of parts (start_of parts) ops) as (λ o. end_of parts (start_of parts) ops ≡ o → option_map_or (is_goal parts) o false ≡ true → IsPlan parts ops) [
-      | None ↦ λ at e. let k : false ≡ true = e in cc
-      | Some last ↦ λ at e. record { last = last; leads = at; goal = e }
-    ] refl is
-
-in_range : (parts : Parts) (names : List (List ℕ)) (ops : List ℕ) → AreChosen parts names ops → (place : ℕ) → place < length ops → slice_index ops place < length parts.operators
-in_range parts names ops are place lt =
-    let within : place < length names = omega (arith, are.long) in
-    let op = slice_get-get_or ops place 0 lt in
-    let name = slice_get-get_or names place [] within in
-    let here = prefix-leads parts ops place are.last are.leads in
-    let choice = are.each place (get_or ops place 0) (get_or names place []) here.0 name op here.1 in
-    slice_get_within parts.operators (get_or ops place 0) choice.operator choice.at
+agrees : (unit : Bool) (real : Option ℕ) (plan : Option (List ℕ)) (bound : Option ℕ) (lines : PlanLines) (ops : List ℕ) → Gives (compared unit real plan bound lines) ops → Agrees unit plan bound lines ops
+agrees unit real plan bound lines ops is =
+    let kind : Bool = if unit then lines.unit else not lines.unit in
+    let goal = then_ok (or_fault NoGoal real) (λ lowest. only_if kind WrongKind >>= λ k. or_fault (WrongCost lowest) plan >>= λ found. cheaper bound lines.cost >>= λ below. Ok found) ops is in
+    let own = then_ok (only_if kind WrongKind) (λ k. or_fault (WrongCost goal.first) plan >>= λ found. cheaper bound lines.cost >>= λ below. Ok found) ops goal.rest in
+    let told = then_ok (or_fault (WrongCost goal.first) plan) (λ found. cheaper bound lines.cost >>= λ below. Ok found) ops own.rest in
+    let low = then_ok (cheaper bound lines.cost) (λ below. Ok told.first) ops told.rest in
+    let last : ◌≡◌ {A = Result (List ℕ) PlanFault} (Ok told.first) (Ok ops) = low.rest in
+    let same : told.first ≡ ops = cc in
+    record {
+      plan_is = or_fault_ok (WrongCost goal.first) plan told.first told.gives ∙ ap (λ z. Some z) same;
+      kind_is = same_kind unit lines.unit (only_if_ok kind WrongKind own.first own.gives);
+      cheaper = cheaper_ok bound lines.cost low.first low.gives;
+    }
 
 abbrev Planned : Type 0
 Planned = Result (List ℕ × ℕ) PlanFault
 
-abbrev told_on : List ℕ → ℕ → Unit {0} → Planned
-told_on ops cost told = Ok (ops, cost)
+-- what lines tell where they are good
+record IsPlanIn (parts : Parts) (bound : Option ℕ) (lines : PlanLines) (ops : List ℕ) (cost : ℕ) : Type 0 where
+  agree : Agrees (is_unit_cost parts) (first_plan parts lines.names lines.cost) bound lines ops
+  told : lines.cost ≡ cost
 
-abbrev go_on : Parts → Option ℕ → PlanLines → List ℕ → Planned
-go_on parts bound lines ops = compared (reaches_goal parts ops) (is_unit_cost parts) (cost_of parts ops) bound lines >>= told_on ops (cost_of parts ops)
-
-pub plan_in-good : (parts : Parts) (bytes : List ℕ) (bound : Option ℕ) (lines : PlanLines) (ops : List ℕ) (cost : ℕ) → plan_lines_of bytes ≡ Ok lines → plan_in parts bound lines ≡ Ok (ops, cost) → IsGoodPlan parts bytes bound ops cost
+plan_in-tells : (parts : Parts) (bound : Option ℕ) (lines : PlanLines) (ops : List ℕ) (cost : ℕ) → Gives (plan_in parts bound lines) (ops, cost) → IsPlanIn parts bound lines ops cost
 unfolding plan_in
-plan_in-good parts bytes bound lines ops cost text is =
-    elim (chosen parts lines.names) as (λ r. chosen parts lines.names ≡ r → ◌≡◌ {A = Planned} (r >>= go_on parts bound lines) (Ok (ops, cost)) → IsGoodPlan parts bytes bound ops cost) [
-      | Err fault ↦ λ at e. let k : ◌≡◌ {A = Planned} (Err fault) (Ok (ops, cost)) = e in cc
-      | Ok found ↦ λ at e.
-          elim (compared (reaches_goal parts found) (is_unit_cost parts) (cost_of parts found) bound lines) as (λ r. compared (reaches_goal parts found) (is_unit_cost parts) (cost_of parts found) bound lines ≡ r → ◌≡◌ {A = Planned} (r >>= told_on found (cost_of parts found)) (Ok (ops, cost)) → IsGoodPlan parts bytes bound ops cost) [
-            | Err fault ↦ λ c f. let k : ◌≡◌ {A = Planned} (Err fault) (Ok (ops, cost)) = f in cc
-            | Ok told ↦ λ c f.
-                let k : ◌≡◌ {A = Planned} (Ok (found, cost_of parts found)) (Ok (ops, cost)) = f in
-                let pair : ◌≡◌ {A = List ℕ × ℕ} (found, cost_of parts found) (ops, cost) = cc in
-                let same_ops : found ≡ ops = ap (λ (p : List ℕ × ℕ). p.0) pair in
-                let same_cost : cost_of parts found ≡ cost = ap (λ (p : List ℕ × ℕ). p.1) pair in
-                let true_told = agrees (reaches_goal parts found) (is_unit_cost parts) (cost_of parts found) bound lines c in
-                let are = chosen_from-are parts 1 (start_of parts) lines.names found at in
-                let good : IsGoodPlan parts bytes bound found (cost_of parts found) = record {
-                  lines = lines;
-                  text = text;
-                  chosen = are;
-                  operators = in_range parts lines.names found are;
-                  plan = plan_is parts found true_told.goal_is;
-                  kind = true_told.kind_is;
-                  told = true_told.told;
-                  cost_is = refl;
-                  cheaper = true_told.cheaper;
-                } in
-                subst (λ n. IsGoodPlan parts bytes bound ops n) same_cost (subst (λ qs. IsGoodPlan parts bytes bound qs (cost_of parts found)) same_ops good)
-          ] refl e
-    ] refl is
+plan_in-tells parts bound lines ops cost is =
+    let whole = compared (is_unit_cost parts) (least_cost parts lines.names) (first_plan parts lines.names lines.cost) bound lines in
+    let each = then_ok (unless (first_fault parts lines.names (length lines.names))) (λ each. whole >>= λ found. Ok (found, lines.cost)) (ops, cost) is in
+    let last = then_ok whole (λ found. Ok (found, lines.cost)) (ops, cost) each.rest in
+    let end : ◌≡◌ {A = Planned} (Ok (last.first, lines.cost)) (Ok (ops, cost)) = last.rest in
+    let pair : ◌≡◌ {A = List ℕ × ℕ} (last.first, lines.cost) (ops, cost) = cc in
+    let same : last.first ≡ ops = ap (λ (p : List ℕ × ℕ). p.0) pair in
+    let told : lines.cost ≡ cost = ap (λ (p : List ℕ × ℕ). p.1) pair in
+    record {
+      agree = subst (Agrees (is_unit_cost parts) (first_plan parts lines.names lines.cost) bound lines) same (agrees (is_unit_cost parts) (least_cost parts lines.names) (first_plan parts lines.names lines.cost) bound lines last.first last.gives);
+      told = told;
+    }
 
-plan_of-judged : (parts : Parts) (bytes : List ℕ) (bound : Option ℕ) → IsJudged parts bytes bound (as_verdict (plan_of parts bound bytes))
-unfolding plan_of
-plan_of-judged parts bytes bound =
-    elim (plan_lines_of bytes) as (λ r. plan_lines_of bytes ≡ r → IsJudged parts bytes bound (as_verdict (as_text r >>= plan_in parts bound))) [
-      | Err fault ↦ λ text. tt
-      | Ok lines ↦ λ text.
-          elim (plan_in parts bound lines) as (λ r. plan_in parts bound lines ≡ r → IsJudged parts bytes bound (as_verdict r)) [
-            | Err fault ↦ λ is. tt
-            | Ok plan ↦ λ is. plan_in-good parts bytes bound lines plan.0 plan.1 text is
-          ] refl
-    ] refl
+-- a plan has as many operators as the lines have names
+pub plan_in-long : (parts : Parts) (bound : Option ℕ) (lines : PlanLines) (ops : List ℕ) (cost : ℕ) → plan_in parts bound lines ≡ Ok (ops, cost) → length ops ≡ length lines.names
+plan_in-long parts bound lines ops cost is =
+    let told = plan_in-tells parts bound lines ops cost is in
+    let found = find_each (AreTaken parts (start_of parts) lines.names) (is_plan_at parts lines.cost) (choices parts lines.names) ops (choices-taken parts lines.names) told.agree.plan_is in
+    taken_long parts (start_of parts) lines.names ops found.0
+
+found_plan : (parts : Parts) (bytes : List ℕ) (bound : Option ℕ) (lines : PlanLines) (ops : List ℕ) (cost : ℕ) → plan_lines_of bytes ≡ Ok lines → IsPlanIn parts bound lines ops cost → IsGoodPlan parts bytes bound ops cost
+found_plan parts bytes bound lines ops cost text is =
+    let found = find_each (AreTaken parts (start_of parts) lines.names) (is_plan_at parts lines.cost) (choices parts lines.names) ops (choices-taken parts lines.names) is.agree.plan_is in
+    let tests = both (reaches_goal parts ops) (nat_eq (cost_of parts ops) lines.cost) found.1 in
+    let own : nat_eq (cost_of parts ops) lines.cost ≡ true = tests.1 in
+    let real : cost_of parts ops ≡ lines.cost = grind (arith, nat_tests, own) in
+    let choice = taken_choice parts lines.names ops found.0 in
+    record {
+      lines = lines;
+      text = text;
+      chosen = choice;
+      operators = taken_within parts (start_of parts) lines.names ops found.0;
+      plan = record { last = last_state parts ops; leads = taken_leads parts (start_of parts) lines.names ops found.0; goal = tests.0 };
+      kind = is.agree.kind_is;
+      told = is.told;
+      cost_is = sym is.told ∙ sym real;
+      cheaper = subst (λ n. IfSome bound (λ limit. n < limit)) is.told is.agree.cheaper;
+    }
+
+as_text_ok : (read : Result PlanLines PlanTextFault) (lines : PlanLines) → Gives (as_text read) lines → read ≡ Ok lines
+as_text_ok (Ok other) lines is = let same : ◌≡◌ {A = Result PlanLines PlanFault} (Ok other) (Ok lines) = is in let eq : other ≡ lines = cc in ap (λ z. Ok z) eq
+as_text_ok (Err fault) lines is = let clash : ◌≡◌ {A = Result PlanLines PlanFault} (Err (Text fault)) (Ok lines) = is in cc
 
 pub good_by : (parts : Parts) (bytes : List ℕ) (bound : Option ℕ) (ops : List ℕ) (cost : ℕ) → plan_of parts bound bytes ≡ Ok (ops, cost) → IsGoodPlan parts bytes bound ops cost
-good_by parts bytes bound ops cost is = subst (λ r. IsJudged parts bytes bound (as_verdict r)) is (plan_of-judged parts bytes bound)
+unfolding plan_of
+good_by parts bytes bound ops cost is =
+    let split = then_ok (as_text (plan_lines_of bytes)) (plan_in parts bound) (ops, cost) is in
+    found_plan parts bytes bound split.first ops cost (as_text_ok (plan_lines_of bytes) split.first split.gives) (plan_in-tells parts bound split.first ops cost split.rest)

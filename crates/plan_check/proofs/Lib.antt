@@ -1,4 +1,12 @@
-pub mod Choices
+pub mod Chosen
+pub mod Ends
+pub mod Faults
+pub mod Finding
+pub mod Firsts
 pub mod Good
+pub mod Layering
+pub mod Leading
 pub mod Naming
-pub mod Plans
+pub mod Reaching
+pub mod Telling
+pub mod Vectors

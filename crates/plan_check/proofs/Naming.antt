@@ -1,13 +1,12 @@
--- Operators by their names, and the choice among those of one name.
-use Rattle.std.proofs.Common.{◌≡◌, ◌∙◌, sym, ap, refl, ℕ, zero, suc, ◌+◌, ◌-◌, ◌<◌, ◌≤◌, List, [], ◌∷◌, length, drop, Bool, true, false, cond, Option, Some, None, arith, subst, Bor, inl, inr, get_or}
-use Rattle.std.specs.Prelude.{slice_get, ◌&&◌, ◌||◌}
-use Rattle.std.specs.List.{position_from, list_any}
+-- Operators by their names, and the candidates among those of one name.
+use Rattle.std.proofs.Common.{◌≡◌, ◌∙◌, sym, ap, refl, ℕ, zero, suc, ◌+◌, ◌-◌, ◌<◌, ◌≤◌, List, [], ◌∷◌, ◌++◌, length, drop, map, Bool, true, false, cond, Option, Some, None, arith, subst, Bor, inl, inr, get_or, append_assoc, append-nil}
+use Rattle.std.specs.Prelude.{slice_get, filter, ◌&&◌, ◌||◌}
+use Rattle.std.specs.List.{position_from, list_any, enumerate_from}
 use Rattle.std.specs.Str.{bytes_eq}
 use Rattle.std.specs.HashMap.{HashMap, get_by, UpdatesBy}
 use Rattle.std.specs.Map.{lookup}
 use Rattle.std.proofs.lemmas.Slice.Eq.{bytes_eq-Decides}
 use Rattle.std.specs.Prelude.{is_some}
-use Rattle.std.proofs.lemmas.Iterator.Adapters.{position_from-zero}
 use Rattle.std.proofs.lemmas.List.{drop_all, get_or-set_same}
 use Rattle.std.proofs.lemmas.Option.{slice_get-get_or, slice_get_within, get_or_from_slice_get}
 use Rattle.std.proofs.lemmas.Bool.{cases_eq}
@@ -17,12 +16,12 @@ use Rattle.sas_task.specs.declared.contents.Operator.{Operator}
 use Rattle.sas_task.specs.declared.contents.Parts.{Parts}
 use Rattle.sas_task.specs.States.{all_hold}
 use Rattle.state_step.specs.Steps.{is_applicable}
-use Rattle.plan_check.specs.Verdicts.{has_name, is_candidate, choice}
+use Rattle.plan_check.specs.Choices.{has_name, is_candidate, candidates}
 use Rattle.plan_check.specs.Names.{next_of}
 
 -- lists from a place on
 
-drop_at : {X : Type 0} (xs : List X) (i : ℕ) (x : X) (rest : List X) → drop i xs ≡ x ∷ rest → (slice_get xs i ≡ Some x) × (drop (i + 1) xs ≡ rest)
+pub drop_at : {X : Type 0} (xs : List X) (i : ℕ) (x : X) (rest : List X) → drop i xs ≡ x ∷ rest → (slice_get xs i ≡ Some x) × (drop (i + 1) xs ≡ rest)
 drop_at {X} [] zero x rest is = let k : ◌≡◌ {A = List X} [] (x ∷ rest) = is in cc
 drop_at {X} [] (suc i) x rest is = let k : ◌≡◌ {A = List X} [] (x ∷ rest) = is in cc
 drop_at (y ∷ ys) zero x rest is = let k : y ∷ ys ≡ x ∷ rest = is in (let e : y ≡ x = cc in ap (λ z. Some z) e, let e : ys ≡ rest = cc in e)
@@ -92,17 +91,22 @@ module _ (operators : List Operator) (i op : ℕ) (o : Operator) (before : i ≡
       ∙ ap (λ text. cond (bytes_eq text name) (Some op) (next_of name (op + 1) operators)) named
       ∙ sym (next_of-at operators op o name at)
 
--- what the choice among those of one name still leads to
+-- the candidates among some operators, of which the first has a number
 
-pub record IsNext (parts : Parts) (state name : List ℕ) (op : ℕ) : Type 0 where
+abbrev pub candidates_in : List ℕ → List ℕ → ℕ → List Operator → List ℕ
+candidates_in state name i operators = map (λ p. p.0) (filter (λ p. is_candidate state name p.1) (enumerate_from i operators))
+
+-- what those that were found so far still lead to, from an operator of the name on
+
+pub record IsNext (parts : Parts) (state name found : List ℕ) (op : ℕ) : Type 0 where
   pub operator : Operator
   pub at : slice_get parts.operators op ≡ Some operator
   pub named : has_name name operator ≡ true
-  pub rest : choice parts state name ≡ position_from (is_candidate state name) op (drop op parts.operators)
+  pub rest : candidates parts state name ≡ found ++ candidates_in state name op (drop op parts.operators)
 
-abbrev pub LeadsOn : Parts → List ℕ → List ℕ → Option ℕ → Type 0
-LeadsOn parts state name None = choice parts state name ≡ None
-LeadsOn parts state name (Some op) = IsNext parts state name op
+abbrev pub LeadsOn : Parts → List ℕ → List ℕ → List ℕ → Option ℕ → Type 0
+LeadsOn parts state name found None = found ≡ candidates parts state name
+LeadsOn parts state name found (Some op) = IsNext parts state name found op
 
 -- how many operators are left
 abbrev pub left_of : ℕ → Option ℕ → ℕ
@@ -110,34 +114,42 @@ left_of n None = 0
 left_of n (Some op) = suc n - op
 
 module _ (parts : Parts) (state name : List ℕ) where
-  leads : (i : ℕ) (xs : List Operator) → drop i parts.operators ≡ xs → choice parts state name ≡ position_from (is_candidate state name) i xs → LeadsOn parts state name (position_from (has_name name) i xs)
-  leads i [] cut is = is
-  leads i (x ∷ xs) cut is =
+  leads : (found : List ℕ) (i : ℕ) (xs : List Operator) → drop i parts.operators ≡ xs → candidates parts state name ≡ found ++ candidates_in state name i xs → LeadsOn parts state name found (position_from (has_name name) i xs)
+  leads found i [] cut is = sym (is ∙ append-nil found)
+  leads found i (x ∷ xs) cut is =
       let there = drop_at parts.operators i x xs cut in
-      elim (has_name name x) as (λ b. has_name name x ≡ b → LeadsOn parts state name (cond b (Some i) (position_from (has_name name) (i + 1) xs))) [
-        | true ↦ λ e. record { operator = x; at = there.0; named = e; rest = is ∙ ap (position_from (is_candidate state name) i) (sym cut) }
+      elim (has_name name x) as (λ b. has_name name x ≡ b → LeadsOn parts state name found (cond b (Some i) (position_from (has_name name) (i + 1) xs))) [
+        | true ↦ λ e. record { operator = x; at = there.0; named = e; rest = is ∙ ap (λ ys. found ++ candidates_in state name i ys) (sym cut) }
         | false ↦ λ e.
             let other : is_candidate state name x ≡ false = ap (λ b. b && all_hold state x.pre) e in
-            leads (i + 1) xs there.1 (is ∙ ap (λ b. cond b (Some i) (position_from (is_candidate state name) (i + 1) xs)) other)
+            let without : candidates_in state name i (x ∷ xs) ≡ candidates_in state name (i + 1) xs = rw other refl in
+            leads found (i + 1) xs there.1 (is ∙ ap (λ ys. found ++ ys) without)
       ] refl
 
-  pub leads_first : LeadsOn parts state name (next_of name 0 parts.operators)
-  leads_first = leads 0 parts.operators refl (position_from-zero (is_candidate state name) parts.operators)
+  pub leads_first : LeadsOn parts state name [] (next_of name 0 parts.operators)
+  leads_first = leads [] 0 parts.operators refl refl
 
-  rest_is : (op : ℕ) (next : IsNext parts state name op) → choice parts state name ≡ cond (is_candidate state name next.operator) (Some op) (position_from (is_candidate state name) (op + 1) (drop (op + 1) parts.operators))
-  rest_is op next = next.rest ∙ ap (position_from (is_candidate state name) op) (at_drop parts.operators op next.operator next.at)
+  holds_is : (found : List ℕ) (op : ℕ) (next : IsNext parts state name found op) → is_candidate state name next.operator ≡ is_applicable parts state op
+  holds_is found op next = let here : is_applicable parts state op ≡ all_hold state next.operator.pre = rw next.at refl in ap (λ b. b && all_hold state next.operator.pre) next.named ∙ sym here
 
-  holds_is : (op : ℕ) (next : IsNext parts state name op) → is_candidate state name next.operator ≡ is_applicable parts state op
-  holds_is op next = let here : is_applicable parts state op ≡ all_hold state next.operator.pre = rw next.at refl in ap (λ b. b && all_hold state next.operator.pre) next.named ∙ sym here
+  rest_is : (found : List ℕ) (op : ℕ) (next : IsNext parts state name found op) →
+      candidates parts state name ≡ found ++ candidates_in state name op (next.operator ∷ drop (op + 1) parts.operators)
+  rest_is found op next = next.rest ∙ ap (λ ys. found ++ candidates_in state name op ys) (at_drop parts.operators op next.operator next.at)
 
-  -- the operator is the choice
-  pub leads_here : (op : ℕ) → IsNext parts state name op → is_applicable parts state op ≡ true → choice parts state name ≡ Some op
-  leads_here op next is = rest_is op next ∙ ap (λ b. cond b (Some op) (position_from (is_candidate state name) (op + 1) (drop (op + 1) parts.operators))) (holds_is op next ∙ is)
+  -- one more is found
+  pub leads_here : (found : List ℕ) (op : ℕ) → IsNext parts state name found op → is_applicable parts state op ≡ true → LeadsOn parts state name (found ++ op ∷ []) (next_of name (op + 1) parts.operators)
+  leads_here found op next is =
+      let candidate : is_candidate state name next.operator ≡ true = holds_is found op next ∙ is in
+      let with : candidates_in state name op (next.operator ∷ drop (op + 1) parts.operators) ≡ op ∷ candidates_in state name (op + 1) (drop (op + 1) parts.operators) = rw candidate refl in
+      leads (found ++ op ∷ []) (op + 1) (drop (op + 1) parts.operators) refl
+      (rest_is found op next ∙ ap (λ ys. found ++ ys) with ∙ sym (append_assoc found (op ∷ []) (candidates_in state name (op + 1) (drop (op + 1) parts.operators))))
 
-  -- or isn't it
-  pub leads_on : (op : ℕ) → IsNext parts state name op → is_applicable parts state op ≡ false → LeadsOn parts state name (next_of name (op + 1) parts.operators)
-  leads_on op next is =
-      leads (op + 1) (drop (op + 1) parts.operators) refl (rest_is op next ∙ ap (λ b. cond b (Some op) (position_from (is_candidate state name) (op + 1) (drop (op + 1) parts.operators))) (holds_is op next ∙ is))
+  -- or isn't
+  pub leads_on : (found : List ℕ) (op : ℕ) → IsNext parts state name found op → is_applicable parts state op ≡ false → LeadsOn parts state name found (next_of name (op + 1) parts.operators)
+  leads_on found op next is =
+      let other : is_candidate state name next.operator ≡ false = holds_is found op next ∙ is in
+      let without : candidates_in state name op (next.operator ∷ drop (op + 1) parts.operators) ≡ candidates_in state name (op + 1) (drop (op + 1) parts.operators) = rw other refl in
+      leads found (op + 1) (drop (op + 1) parts.operators) refl (rest_is found op next ∙ ap (λ ys. found ++ ys) without)
 
 -- fewer operators are left
 pub left_less : (operators : List Operator) (name : List ℕ) (op : ℕ) → op < length operators → left_of (length operators) (next_of name (op + 1) operators) < left_of (length operators) (Some op)

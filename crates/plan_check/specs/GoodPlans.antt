@@ -5,16 +5,15 @@ use Rattle.sas_task.specs.Runs.{IsPlan, cost_of}
 use Rattle.sas_task.specs.Costs.{is_unit_cost}
 use Rattle.plan_text.specs.PlanLines.{plan_lines_of}
 use Rattle.plan_text.specs.declared.reading.PlanLines.{PlanLines}
-use Rattle.plan_check.specs.Choices.{AreChosen}
+use Rattle.plan_check.specs.Choices.{IsChoice}
 use Rattle.plan_check.specs.declared.verdicts.Verdict.{Verdict}
 use Rattle.plan_check.specs.declared.verdicts.Verdict.TheVariants.{Good, Bad}
 
--- The bytes are the text of a plan: its operators are those that are chosen for the names, they are operators of the task and lead to the
--- goal, the cost and its kind are told as they are, and the cost is below the bound.
+-- The bytes are the text of a plan: its operators are a choice for the names, they are operators of the task and lead to the goal, the cost and its kind are told as they are, and the cost is below the bound.
 pub record IsGoodPlan (parts : Parts) (bytes : List ℕ) (bound : Option ℕ) (ops : List ℕ) (cost : ℕ) : Type 0 where
   pub lines : PlanLines
   pub text : plan_lines_of bytes ≡ Ok lines
-  pub chosen : AreChosen parts lines.names ops
+  pub chosen : IsChoice parts lines.names ops
   pub operators : (place : ℕ) → place < length ops → slice_index ops place < length parts.operators
   pub plan : IsPlan parts ops
   pub kind : lines.unit ≡ is_unit_cost parts

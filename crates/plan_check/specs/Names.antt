@@ -4,7 +4,7 @@ use Rattle.std.specs.List.{position_from}
 use Rattle.std.specs.HashMap.{get_by}
 use Rattle.std.specs.Str.{bytes_eq}
 use Rattle.sas_task.specs.declared.contents.Operator.{Operator}
-use Rattle.plan_check.specs.Verdicts.{has_name}
+use Rattle.plan_check.specs.Choices.{has_name}
 use Rattle.plan_check.specs.declared.names.ByName.{ByName}
 
 -- the lowest operator with a name, from a number on

@@ -1,12 +1,12 @@
 // The judge.
-ghost use Rattle.std.specs.Prelude.{◌≡◌, ◌≤◌, length, IfOk};
+ghost use Rattle.std.specs.Prelude.{◌≡◌, ◌≤◌, Some, length, option_map, IfOk};
 ghost use Rattle.lama_num.specs.Gives.{Gives};
 ghost use Rattle.plan_text.specs.PlanLines.{plan_lines_of};
 ghost use Rattle.plan_check.specs.GoodPlans.{IsJudged, HasFewSteps};
 ghost use Rattle.plan_check.specs.Refusals.{fault_of};
 ghost use Rattle.plan_check.specs.Verdicts.{as_text, compared, plan_in as the_plan_in, plan_of as the_plan, verdict_of};
 
-use crate::choosing::choose;
+use crate::choosing::{Chosen, choose};
 use crate::refusals::Refusal;
 use crate::verdicts::{PlanFault, Verdict};
 use lama_num::{NoMemory, Seq};
@@ -32,28 +32,32 @@ fn read(alloc: Global, bytes: &[u8]) -> Result<PlanLines, Refusal>
     }
 }
 
-/// Compares what lines tell with what their operators do, and the cost with the bound.
+/// Compares what lines tell with what the choices of operators lead to, and the cost with the
+/// bound.
 fn compare(
-    goal: bool,
     unit: bool,
-    cost: u64,
+    chosen: Chosen,
     bound: Option<u64>,
     lines: &PlanLines,
-) -> Result<(), PlanFault>
-    ensures { result ≡ compared goal unit cost bound lines.now }
+) -> Result<Vec<u32>, PlanFault>
+    ensures { Gives Some (λ ops. ops.items) result
+        (compared unit chosen.least (option_map (λ ops. ops.items) chosen.plan) bound lines.now) }
 {
-    if !goal {
+    let Some(real) = chosen.least else {
         return Err(PlanFault::NoGoal);
-    }
+    };
     if lines.unit != unit {
         return Err(PlanFault::WrongKind);
     }
-    if lines.cost != cost {
-        return Err(PlanFault::WrongCost { real: cost });
-    }
+    let Some(ops) = chosen.plan else {
+        return Err(PlanFault::WrongCost { real });
+    };
     match bound {
-        Some(bound) if cost >= bound => Err(PlanFault::NotCheaper { real: cost, bound }),
-        _ => Ok(()),
+        Some(bound) if lines.cost >= bound => Err(PlanFault::NotCheaper {
+            real: lines.cost,
+            bound,
+        }),
+        _ => Ok(ops),
     }
 }
 
@@ -65,25 +69,20 @@ fn plan_in(
     bound: Option<u64>,
 ) -> Result<Plan, Refusal>
     requires { length lines.now.names ≤ 67108864 }
-    ensures plan { Gives fault_of (λ plan. (plan.ops.items, plan.cost)) result (the_plan_in task.now bound lines.now) }
+    ensures plan { Gives fault_of (λ plan. (plan.ops.items, plan.cost)) result
+        (the_plan_in task.now bound lines.now) }
     ensures few { IfOk result (λ plan. length plan.ops.items ≤ 67108864) }
 {
-    let mut ops = Vec::new(alloc);
-    let reached = choose(alloc, task, &lines.names, &mut ops)?;
-    compare(
-        reached.goal,
-        task.is_unit_cost(),
-        reached.cost,
-        bound,
-        lines,
-    )?;
-    let cost = reached.cost;
+    let chosen = choose(alloc, task, &lines.names, lines.cost)?;
+    let ops = compare(task.is_unit_cost(), chosen, bound, lines)?;
+    let cost = lines.cost;
     Ok(Plan { ops, cost })
 }
 
 #[tactic(auto, unfolding(crate::specs::Verdicts::plan_of))]
 fn plan_of(alloc: Global, task: &Task, bytes: &[u8], bound: Option<u64>) -> Result<Plan, Refusal>
-    ensures plan { Gives fault_of (λ plan. (plan.ops.items, plan.cost)) result (the_plan task.now bound bytes.now) }
+    ensures plan { Gives fault_of (λ plan. (plan.ops.items, plan.cost)) result
+        (the_plan task.now bound bytes.now) }
     ensures few { IfOk result (λ plan. length plan.ops.items ≤ 67108864) }
 {
     let lines = read(alloc, bytes)?;
@@ -92,10 +91,10 @@ fn plan_of(alloc: Global, task: &Task, bytes: &[u8], bound: Option<u64>) -> Resu
 
 /// The verdict on the bytes of a plan file.
 ///
-/// The bytes may be any. For each name the lowest-numbered operator is chosen that has the name and is
-/// applicable after those before it. Names are found by an index that is made once, so the time
-/// grows with the bytes, the steps and the task, and for a name that several operators have with
-/// their number.
+/// The bytes may be any. Names are found by an index that is made once. As long as one operator can
+/// be taken for each name, the time grows with the bytes, the steps and the task; from the first
+/// name on for which there are several, with the number of different pairs of last state and cost
+/// after each step. These have a limit, as have those of all steps together.
 #[tactic(auto, unfolding(crate::specs::Verdicts::verdict_of))]
 pub fn judge(
     alloc: Global,

@@ -1,13 +1,11 @@
 // The operators of a task by their names.
 ghost use Rattle.std.specs.Prelude.{◌≡◌, ◌≤◌, length, IfOk};
-ghost use Rattle.state_step.specs.Stepper.{IsFor};
+ghost use Rattle.std.specs.List.{list_any};
 ghost use Rattle.plan_check.specs.Names.{IsIndexOf};
-ghost use Rattle.plan_check.specs.Verdicts.{choice as the_choice, no_choice as the_fault};
+ghost use Rattle.plan_check.specs.Choices.{has_name};
 
-use crate::verdicts::PlanFault;
 use lama_num::NoMemory;
-use sas_task::{Operator, Task};
-use state_step::Stepper;
+use sas_task::Operator;
 use std::alloc::Global;
 use std::collections::HashMap;
 
@@ -33,32 +31,11 @@ impl<'a> ByName<'a> {
         Ok(ByName { first, next })
     }
 
-    /// The operator for a name in a state: the lowest that has the name and is applicable.
-    pub fn choice(&self, task: &Task, stepper: &Stepper, state: &[u32], name: &[u8]) -> Option<u32>
-        requires index { IsIndexOf self.now task.now.operators }
-        requires same_task { IsFor stepper.now task.now }
-        requires long { length state.now ≡ length task.now.variables }
-        ensures { result ≡ the_choice task.now state.now name.now }
+    /// Whether an operator has the name.
+    pub fn has(&self, operators: &[Operator], name: &[u8]) -> bool
+        requires { IsIndexOf self.now operators.now }
+        ensures { result ≡ list_any (has_name name.now) operators.now }
     {
-        let mut at = self.first.get(name).copied();
-        while let Some(op) = at {
-            if stepper.applicable(task, state, op) {
-                return Some(op);
-            }
-            at = self.next[op as usize];
-        }
-        None
-    }
-
-    /// What is wrong at a step for whose name nothing can be chosen.
-    pub fn no_choice(&self, task: &Task, step: u32, name: &[u8]) -> PlanFault
-        requires index { IsIndexOf self.now task.now.operators }
-        ensures { result ≡ the_fault task.now step name.now }
-    {
-        if self.first.contains_key(name) {
-            PlanFault::NotApplicable { step }
-        } else {
-            PlanFault::NoOperator { step }
-        }
+        self.first.contains_key(name)
     }
 }

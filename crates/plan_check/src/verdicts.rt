@@ -11,13 +11,16 @@ pub enum PlanFault {
     NoOperator { step: u32 },
     /// No operator of that name is applicable after the steps before.
     NotApplicable { step: u32 },
-    /// The last state isn't a goal.
+    /// There are too many pairs of last state and cost after the step, or up to it.
+    TooMany { step: u32 },
+    /// No choice of operators leads to a goal.
     NoGoal,
     /// The file tells another kind of cost than the task has.
     WrongKind,
-    /// The file tells another cost.
+    /// No choice of operators is a plan of the cost that the file tells; the least cost of one that
+    /// leads to a goal is `real`.
     WrongCost { real: u64 },
-    /// The cost isn't below the bound.
+    /// The cost that the file tells isn't below the bound.
     NotCheaper { real: u64, bound: u64 },
 }
 

@@ -1,152 +1,164 @@
 // The judge's verdicts on plan files from outside.
+use crate::tasks::{same_names_costs, seventeen_switches, switched};
+use lama_num::NoMemory;
 use plan_check::{PlanFault, Verdict, judge};
 use plan_text::PlanTextFault;
 use sas_reader::read;
-use sas_task::Task;
+use sas_task::{Task, check};
 use std::alloc::Global;
-use std::process::Abort;
 use std::test::Fail;
 use test_tasks::{one_name, same_names, three_places};
 
-fn is_good(verdict: &Verdict, want: &[u32], wanted_cost: u64) -> bool {
-    match verdict {
-        Verdict::Good { ops, cost } => ops.as_slice() == want && *cost == wanted_cost,
-        Verdict::Bad(_) => false,
-    }
-}
-
-fn is_bad(verdict: &Verdict, fault: PlanFault) -> bool {
-    match verdict {
-        Verdict::Good { .. } => false,
-        Verdict::Bad(found) => *found == fault,
-    }
-}
-
-fn expect_bad(
-    rt: &impl Abort,
+/// Whether a text is judged a plan of these operators, at this cost.
+fn is_good(
     alloc: Global,
     task: &Task,
-    texts: &[(&[u8], PlanFault)],
-) -> Result<(), Fail> {
-    for (text, fault) in texts {
-        let found = judge(alloc, task, text, None)?;
-        assert!(rt; is_bad(&found, *fault), "{text:?}");
+    text: &[u8],
+    bound: Option<u64>,
+    want: &[u32],
+    total: u64,
+) -> Result<bool, NoMemory> {
+    match judge(alloc, task, text, bound)? {
+        Verdict::Good { ops, cost } => Ok(ops.as_slice() == want && cost == total),
+        Verdict::Bad(_) => Ok(false),
     }
-    Ok(())
 }
 
-fn two_steps() -> &'static [u8] {
-    b"(go01)\n(go12)\n; cost = 2 (general cost)"
+/// Whether a text is judged to have this fault.
+fn is_bad(
+    alloc: Global,
+    task: &Task,
+    text: &[u8],
+    bound: Option<u64>,
+    fault: PlanFault,
+) -> Result<bool, NoMemory> {
+    match judge(alloc, task, text, bound)? {
+        Verdict::Good { .. } => Ok(false),
+        Verdict::Bad(found) => Ok(found == fault),
+    }
 }
 
-#[test]
-fn plans_are_good(rt: HostRuntime) -> Result<(), Fail> {
-    let alloc = rt.alloc();
+/// Whether a text is a plan of the task of three places.
+fn is_plan(
+    alloc: Global,
+    text: &str,
+    bound: Option<u64>,
+    want: &[u32],
+    total: u64,
+) -> Result<bool, Fail> {
     let task = read(alloc, three_places().as_bytes())?;
-    let whole = judge(
-        alloc,
-        &task,
-        b"(go01)\n(go12)\n; cost = 2 (general cost)\n",
-        None,
-    )?;
-    assert!(rt; is_good(&whole, &[0, 1], 2));
-    let cheap = judge(alloc, &task, two_steps(), Some(3))?;
-    assert!(rt; is_good(&cheap, &[0, 1], 2));
-    let jump = judge(alloc, &task, b"(jump)\n; cost = 5 (general cost)\n", None)?;
-    assert!(rt; is_good(&jump, &[2], 5));
-    Ok(())
+    Ok(is_good(alloc, &task, text.as_bytes(), bound, want, total)?)
 }
 
-#[test]
-fn plans_that_are_not_cheaper(rt: HostRuntime) -> Result<(), Fail> {
-    let alloc = rt.alloc();
+/// Whether a text has this fault for the task of three places, with no bound.
+fn has_fault(alloc: Global, text: &str, fault: PlanFault) -> Result<bool, Fail> {
     let task = read(alloc, three_places().as_bytes())?;
-    let found = judge(alloc, &task, two_steps(), Some(2))?;
-    assert!(rt; is_bad(&found, PlanFault::NotCheaper { real: 2, bound: 2 }));
+    Ok(is_bad(alloc, &task, text.as_bytes(), None, fault)?)
+}
+
+/// Whether a plan is told not to be cheaper than this bound.
+fn is_dear(alloc: Global, text: &str, real: u64, bound: u64) -> Result<bool, Fail> {
+    let task = read(alloc, three_places().as_bytes())?;
+    let fault = PlanFault::NotCheaper { real, bound };
+    Ok(is_bad(alloc, &task, text.as_bytes(), Some(bound), fault)?)
+}
+
+/// The text of two steps, with no end of the last line.
+fn two_steps() -> &'static str {
+    "(go01)\n(go12)\n; cost = 2 (general cost)"
+}
+
+#[test]
+fn plans_below_the_bound_are_good(rt: HostRuntime) -> Result<(), Fail> {
+    let alloc = rt.alloc();
+    let whole = "(go01)\n(go12)\n; cost = 2 (general cost)\n";
+    assert!(rt; is_plan(alloc, whole, None, &[0, 1], 2)?);
+    assert!(rt; is_plan(alloc, two_steps(), Some(3), &[0, 1], 2)?);
+    assert!(rt; is_plan(alloc, "(jump)\n; cost = 5 (general cost)\n", None, &[2], 5)?);
+    assert!(rt; is_dear(alloc, two_steps(), 2, 2)?);
     Ok(())
 }
 
 #[test]
-fn operators_that_fail(rt: HostRuntime) -> Result<(), Fail> {
-    let task = read(rt.alloc(), three_places().as_bytes())?;
-    let texts: [(&[u8], PlanFault); 4] = [
-        (b"(go01)\n; cost = 1 (general cost)\n", PlanFault::NoGoal),
-        (
-            b"(go12)\n; cost = 1 (general cost)\n",
-            PlanFault::NotApplicable { step: 1 },
-        ),
-        (
-            b"(go01)\n(fly)\n; cost = 1 (general cost)\n",
-            PlanFault::NoOperator { step: 2 },
-        ),
-        (
-            b"(go12)\n(fly)\n; cost = 1 (unit cost)\n",
-            PlanFault::NotApplicable { step: 1 },
-        ),
-    ];
-    expect_bad(&rt, rt.alloc(), &task, &texts)
-}
-
-#[test]
-fn costs_that_differ(rt: HostRuntime) -> Result<(), Fail> {
-    let task = read(rt.alloc(), three_places().as_bytes())?;
-    let texts: [(&[u8], PlanFault); 3] = [
-        (
-            b"( go01 )\n(go12)\n; cost = 2 (unit cost)\n",
-            PlanFault::WrongKind,
-        ),
-        (
-            b"(go01)\n(go12)\n; cost = 1 (general cost)\n",
-            PlanFault::WrongCost { real: 2 },
-        ),
-        (b"(go01)\n; cost = 9 (unit cost)\n", PlanFault::NoGoal),
-    ];
-    expect_bad(&rt, rt.alloc(), &task, &texts)
+fn steps_and_costs_that_fail(rt: HostRuntime) -> Result<(), Fail> {
+    let alloc = rt.alloc();
+    let unit = "( go01 )\n(go12)\n; cost = 2 (unit cost)\n";
+    let low = "(go01)\n(go12)\n; cost = 1 (general cost)\n";
+    let early = "(go12)\n; cost = 1 (general cost)\n";
+    let unknown = "(go01)\n(fly)\n; cost = 1 (general cost)\n";
+    assert!(rt; has_fault(alloc, unit, PlanFault::WrongKind)?);
+    assert!(rt; has_fault(alloc, low, PlanFault::WrongCost { real: 2 })?);
+    assert!(rt; has_fault(alloc, "(go01)\n; cost = 1 (general cost)\n", PlanFault::NoGoal)?);
+    assert!(rt; has_fault(alloc, "(go01)\n; cost = 9 (unit cost)\n", PlanFault::NoGoal)?);
+    assert!(rt; has_fault(alloc, early, PlanFault::NotApplicable { step: 1 })?);
+    assert!(rt; has_fault(alloc, unknown, PlanFault::NoOperator { step: 2 })?);
+    Ok(())
 }
 
 #[test]
 fn texts_that_are_no_plan(rt: HostRuntime) -> Result<(), Fail> {
-    let task = read(rt.alloc(), three_places().as_bytes())?;
-    let texts: [(&[u8], PlanFault); 5] = [
-        (b"", PlanFault::Text(PlanTextFault::CutShort)),
-        (b"(go01)\n(go1", PlanFault::Text(PlanTextFault::CutShort)),
-        (
-            b"(go01)\n(go1\n",
-            PlanFault::Text(PlanTextFault::BadLine { line: 2 }),
-        ),
-        (
-            b"(jump)\n; cost = 5 (general cost)\nx\n",
-            PlanFault::Text(PlanTextFault::BadLine { line: 3 }),
-        ),
-        (
-            b"(jump)\n; cost = 99999999999999999999 (general cost)\n",
-            PlanFault::Text(PlanTextFault::BadCost),
-        ),
-    ];
-    expect_bad(&rt, rt.alloc(), &task, &texts)
+    let alloc = rt.alloc();
+    let cut = PlanFault::Text(PlanTextFault::CutShort);
+    let second = PlanFault::Text(PlanTextFault::BadLine { line: 2 });
+    let third = PlanFault::Text(PlanTextFault::BadLine { line: 3 });
+    let cost = PlanFault::Text(PlanTextFault::BadCost);
+    let more = "(jump)\n; cost = 5 (general cost)\nx\n";
+    let wide = "(jump)\n; cost = 99999999999999999999 (general cost)\n";
+    assert!(rt; has_fault(alloc, "", cut)?);
+    assert!(rt; has_fault(alloc, "(go01)\n(go1", cut)?);
+    assert!(rt; has_fault(alloc, "(go01)\n(go1\n", second)?);
+    assert!(rt; has_fault(alloc, more, third)?);
+    assert!(rt; has_fault(alloc, wide, cost)?);
+    Ok(())
 }
 
 #[test]
 fn operators_of_one_name(rt: HostRuntime) -> Result<(), Fail> {
-    let task = read(rt.alloc(), same_names().as_bytes())?;
-    let texts: [(&[u8], PlanFault); 2] = [
-        (
-            b"(step)\n(fin)\n; cost = 2 (unit cost)\n",
-            PlanFault::NotApplicable { step: 2 },
-        ),
-        (
-            b"(step)\n(step)\n; cost = 2 (unit cost)\n",
-            PlanFault::NotApplicable { step: 2 },
-        ),
-    ];
-    expect_bad(&rt, rt.alloc(), &task, &texts)
+    let alloc = rt.alloc();
+    let task = read(alloc, same_names().as_bytes())?;
+    let plan: &[u8] = b"(step)\n(fin)\n; cost = 2 (unit cost)\n";
+    let twice: &[u8] = b"(step)\n(step)\n; cost = 2 (unit cost)\n";
+    let stuck = PlanFault::NotApplicable { step: 2 };
+    assert!(rt; is_good(alloc, &task, plan, None, &[1, 2], 2)?);
+    assert!(rt; is_bad(alloc, &task, twice, None, stuck)?);
+    Ok(())
 }
 
 #[test]
 fn the_applicable_one_is_chosen(rt: HostRuntime) -> Result<(), Fail> {
     let alloc = rt.alloc();
     let task = read(alloc, one_name().as_bytes())?;
-    let found = judge(alloc, &task, b"(go)\n(go)\n; cost = 2 (unit cost)\n", None)?;
-    assert!(rt; is_good(&found, &[0, 1], 2));
+    let plan: &[u8] = b"(go)\n(go)\n; cost = 2 (unit cost)\n";
+    assert!(rt; is_good(alloc, &task, plan, None, &[0, 1], 2)?);
+    Ok(())
+}
+
+#[test]
+fn operators_of_one_name_and_several_costs(rt: HostRuntime) -> Result<(), Fail> {
+    let alloc = rt.alloc();
+    let task = check(same_names_costs(alloc)?)?;
+    let two: &[u8] = b"(go)\n; cost = 2 (general cost)\n";
+    let three: &[u8] = b"(go)\n; cost = 3 (general cost)\n";
+    let four: &[u8] = b"(go)\n; cost = 4 (general cost)\n";
+    let dear = PlanFault::NotCheaper { real: 3, bound: 3 };
+    assert!(rt; is_good(alloc, &task, two, None, &[0], 2)?);
+    assert!(rt; is_good(alloc, &task, three, None, &[1], 3)?);
+    assert!(rt; is_bad(alloc, &task, four, None, PlanFault::WrongCost { real: 2 })?);
+    assert!(rt; is_bad(alloc, &task, three, Some(3), dear)?);
+    Ok(())
+}
+
+/// Whether the names of so many of seventeen switches are judged so.
+fn switches_are(alloc: Global, count: u32, fault: PlanFault) -> Result<bool, Fail> {
+    let task = check(seventeen_switches(alloc)?)?;
+    let text = switched(alloc, count)?;
+    Ok(is_bad(alloc, &task, &text, None, fault)?)
+}
+
+#[test]
+fn too_many_pairs(rt: HostRuntime) -> Result<(), Fail> {
+    let alloc = rt.alloc();
+    assert!(rt; switches_are(alloc, 16, PlanFault::NoGoal)?);
+    assert!(rt; switches_are(alloc, 17, PlanFault::TooMany { step: 17 })?);
     Ok(())
 }

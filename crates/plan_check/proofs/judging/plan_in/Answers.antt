@@ -1,36 +1,47 @@
-use Rattle.std.proofs.Common.{◌≡◌, ◌∙◌, sym, ap, arith, subst, Err, Ok}
+use Rattle.std.proofs.Common.{◌≡◌, ◌∙◌, ap, arith, subst, length, Err, Some, None, List, ℕ}
+use Rattle.std.specs.Prelude.{IfSome}
 use Rattle.std.proofs.lemmas.Grind.{common_steps}
 use Rattle.lama_num.specs.Gives.{Fails}
 use Rattle.plan_check.specs.Refusals.{fault_of}
-use Rattle.plan_check.specs.ChoiceLaws.{chosen_from-are}
-use Rattle.sas_task.specs.Runs.{start_of}
-use Rattle.plan_check.specs.Verdicts.{chosen, plan_in}
-use Rattle.plan_check.proofs.Plans.{plan_unchosen, plan_refused, plan_good}
+use Rattle.plan_check.specs.Verdicts.{first_fault, first_plan, least_cost, plan_in}
+use Rattle.plan_check.proofs.Good.{plan_in-long}
+use Rattle.plan_check.proofs.Telling.{step_refused, end_refused, plan_told}
 use Rattle.plan_check.proofs.judging.plan_in.Goals as goal
 
-pub returns-in_err-reached-clause-plan : goal.returns-in_err-reached-clause-plan
-returns-in_err-reached-clause-plan c =
-    let fails : Fails (fault_of c.in_err-reached.field-0.0) (plan_in c.args.task.now c.args.bound c.args.lines.now) =
-    plan_unchosen c.args.task.now c.args.bound c.args.lines.now (fault_of c.in_err-reached.field-0.0)
-    (subst (λ names. Fails (fault_of c.in_err-reached.field-0.0) (chosen c.args.task.now names)) c.deref.ensures c.in_err-reached.ensures.chosen) in
+pub returns-in_err-chosen-clause-plan : goal.returns-in_err-chosen-clause-plan
+returns-in_err-chosen-clause-plan c =
+    let task = c.args.task.now in
+    let fails : Fails (fault_of c.in_err-chosen.field-0.0) (plan_in c.args.task.now c.args.bound c.args.lines.now) =
+    step_refused task c.args.bound c.args.lines.now (fault_of c.in_err-chosen.field-0.0)
+    (subst (λ (names : List (List ℕ)). IfSome (fault_of c.in_err-chosen.field-0.0) (λ f. first_fault task names (length names) ≡ Some f)) c.deref.ensures c.in_err-chosen.ensures.fault) in
     let h = c.from_residual.ensures in
     grind (arith, common_steps, fails)
 
-pub returns-in_err-compare-clause-plan : goal.returns-in_err-compare-clause-plan
-returns-in_err-compare-clause-plan c =
-    let are : chosen c.args.task.now c.args.lines.now.names ≡ Ok c.choose.new.ops.items = ap (chosen c.args.task.now) (sym c.deref.ensures) ∙ c.in_ok-reached.ensures.chosen in
-    let fault : plan_in c.args.task.now c.args.bound c.args.lines.now ≡ Err c.in_err-compare.field-0.0 =
-    plan_refused c.args.task.now c.args.bound c.args.lines.now c.choose.new.ops.items c.in_ok-reached.reached.goal c.is_unit_cost.result c.in_ok-reached.reached.cost
-    are c.in_ok-reached.ensures.goal c.is_unit_cost.ensures c.in_ok-reached.ensures.cost c.in_err-compare.field-0.0 c.in_err-compare.ensures in
+pub returns-in_err-ops-clause-plan : goal.returns-in_err-ops-clause-plan
+returns-in_err-ops-clause-plan c =
+    let task = c.args.task.now in
+    let none = subst (λ (names : List (List ℕ)). first_fault task names (length names) ≡ None) c.deref.ensures c.in_ok-chosen.ensures.no_fault in
+    let real = c.in_ok-chosen.ensures.least ∙ ap (least_cost task) c.deref.ensures in
+    let plan = c.in_ok-chosen.ensures.plan ∙ ap (λ (names : List (List ℕ)). first_plan task names c.args.lines.now.cost) c.deref.ensures in
+    let fault : plan_in c.args.task.now c.args.bound c.args.lines.now ≡ Err c.in_err-ops.field-0.0 =
+    end_refused task c.args.bound c.args.lines.now c.is_unit_cost.result c.in_ok-chosen.chosen.least _ none c.is_unit_cost.ensures real plan c.in_err-ops.field-0.0 c.in_err-ops.ensures in
+    let h = c.from_residual-in_err-ops.ensures in
     grind (arith, common_steps, fault)
 
 pub returns-clause-plan : goal.returns-clause-plan
 returns-clause-plan c =
-    let are : chosen c.args.task.now c.args.lines.now.names ≡ Ok c.choose.new.ops.items = ap (chosen c.args.task.now) (sym c.deref.ensures) ∙ c.in_ok-reached.ensures.chosen in
-    plan_good c.args.task.now c.args.bound c.args.lines.now c.choose.new.ops.items c.in_ok-reached.reached.goal c.is_unit_cost.result c.in_ok-reached.reached.cost
-    are c.in_ok-reached.ensures.goal c.is_unit_cost.ensures c.in_ok-reached.ensures.cost c.in_ok-compare.ensures
+    let task = c.args.task.now in
+    let none = subst (λ (names : List (List ℕ)). first_fault task names (length names) ≡ None) c.deref.ensures c.in_ok-chosen.ensures.no_fault in
+    let real = c.in_ok-chosen.ensures.least ∙ ap (least_cost task) c.deref.ensures in
+    let plan = c.in_ok-chosen.ensures.plan ∙ ap (λ (names : List (List ℕ)). first_plan task names c.args.lines.now.cost) c.deref.ensures in
+    plan_told task c.args.bound c.args.lines.now c.is_unit_cost.result c.in_ok-chosen.chosen.least _ none c.is_unit_cost.ensures real plan c.in_ok-ops.ops.items c.in_ok-ops.ensures
 
 pub returns-clause-few : goal.returns-clause-few
 returns-clause-few c =
-    let are = chosen_from-are c.args.task.now 1 (start_of c.args.task.now) c.args.lines.now.names c.choose.new.ops.items (ap (chosen c.args.task.now) (sym c.deref.ensures) ∙ c.in_ok-reached.ensures.chosen) in
-    omega (arith, are.long, c.requires)
+    let task = c.args.task.now in
+    let none = subst (λ (names : List (List ℕ)). first_fault task names (length names) ≡ None) c.deref.ensures c.in_ok-chosen.ensures.no_fault in
+    let real = c.in_ok-chosen.ensures.least ∙ ap (least_cost task) c.deref.ensures in
+    let plan = c.in_ok-chosen.ensures.plan ∙ ap (λ (names : List (List ℕ)). first_plan task names c.args.lines.now.cost) c.deref.ensures in
+    let told = plan_told task c.args.bound c.args.lines.now c.is_unit_cost.result c.in_ok-chosen.chosen.least _ none c.is_unit_cost.ensures real plan c.in_ok-ops.ops.items c.in_ok-ops.ensures in
+    let long = plan_in-long task c.args.bound c.args.lines.now c.in_ok-ops.ops.items c.args.lines.now.cost told in
+    omega (arith, long, c.requires)

@@ -1,9 +1,0 @@
-use Rattle.std.proofs.Common.{length}
-use Rattle.plan_check.proofs.Naming.{LeadsOn, left_of}
-use Rattle.plan_check.proofs.names.ByName.choice.Given as goal
-
-abbrev pub invariant-loop-at : goal.invariant-loop-at
-invariant-loop-at l = LeadsOn l.task l.state l.name l.at
-
-abbrev pub decreases-loop-at : goal.decreases-loop-at
-decreases-loop-at l = left_of (length l.task.operators) l.at
