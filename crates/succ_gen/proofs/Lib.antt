@@ -1,3 +1,4 @@
+pub mod Laying
 pub mod Levels
 pub mod Sorting
 pub mod Ways

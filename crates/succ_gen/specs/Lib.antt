@@ -1,3 +1,4 @@
 pub mod Branches
 pub mod Conditions
 pub mod Growing
+pub mod Nodes

@@ -7,3 +7,4 @@
 
 mod conditions;
 mod growing;
+mod nodes;
