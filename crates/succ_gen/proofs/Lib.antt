@@ -1,4 +1,7 @@
+pub mod Ascending
 pub mod Laying
 pub mod Levels
+pub mod Reaching
+pub mod Shapes
 pub mod Sorting
 pub mod Ways

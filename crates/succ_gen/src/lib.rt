@@ -8,3 +8,7 @@
 mod conditions;
 mod growing;
 mod nodes;
+mod tree;
+mod walking;
+
+pub use tree::Tree;
