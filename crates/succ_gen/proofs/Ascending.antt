@@ -1,7 +1,7 @@
 -- Ascending lists that have the same numbers are equal.
-use Rattle.std.proofs.Common.{◌≡◌, ◌∙◌, refl, sym, ap, subst, ℕ, zero, suc, ◌+◌, ◌<◌, ◌≤◌, ◌⊎◌, inl, inr, List, [], ◌∷◌, length, get_or, Bool, true, false, nat_eq, eqb, IsTrue, filter, arith}
-use Rattle.std.specs.List.{All, Contains, dedup, range_with_len}
-use Rattle.std.specs.List.Sorted.{IsStrictlySortedBy, IsPermutation, IsSorted, IsStrictlyIncreasing}
+use Rattle.std.proofs.Common.{◌≡◌, ◌∙◌, refl, sym, ap, ℕ, zero, suc, ◌<◌, ◌⊎◌, inl, inr, List, [], ◌∷◌, length, get_or, true, eqb, arith}
+use Rattle.std.specs.List.{Contains, dedup, range_with_len}
+use Rattle.std.specs.List.Sorted.{IsStrictlySortedBy, IsPermutation, IsSorted}
 use Rattle.std.specs.Ordering.{nat_cmp}
 use Rattle.std.specs.declared.cmp.Ordering.TheVariants.{Less}
 use Rattle.std.proofs.lemmas.Bool.Decides.{nat_tests}
@@ -12,7 +12,7 @@ use Rattle.std.proofs.lemmas.Map.Keys.{sorted_head, sorted_tail, sorted_from_str
 use Rattle.sas_task.specs.declared.contents.Parts.{Parts}
 use Rattle.sas_task.specs.States.{is_applicable}
 use Rattle.sas_task.specs.Laws.{applicable-within}
-use Rattle.succ_gen.specs.Trees.{Kept, applicable, IsFound, IsFor}
+use Rattle.succ_gen.specs.Trees.{Stored, applicable, IsFound, IsFor}
 use Rattle.succ_gen.specs.Walks.{AreFound}
 use Rattle.succ_gen.proofs.Reaching.{contains_tail, has_filter, range_increasing}
 
@@ -58,16 +58,16 @@ same_sorted (x ∷ xs) (y ∷ ys) up more to from =
     ap (λ k. k ∷ xs) same ∙ ap (λ zs. y ∷ zs) rest
 
 -- the operators that were found, sorted and each once, are the applicable ones
-pub applicable_from : (tree : Kept) (parts : Parts) (state found sorted out : List ℕ) → IsFor tree parts → AreFound tree.nodes tree.operators state found → IsPermutation found sorted → IsSorted nat_cmp sorted → out ≡ dedup eqb sorted → out ≡ applicable parts state
+pub applicable_from : (tree : Stored) (parts : Parts) (state found sorted out : List ℕ) → IsFor tree parts → AreFound tree.nodes tree.operators state found → IsPermutation found sorted → IsSorted nat_cmp sorted → out ≡ dedup eqb sorted → out ≡ applicable parts state
 applicable_from tree parts state found sorted out is are moved up once =
     let p = is_applicable parts state in
     let n = length parts.operators in
     once ∙ same_sorted (dedup eqb sorted) (applicable parts state) (sorted_from_strictly_increasing (dedup eqb sorted) (IsStrictlyIncreasing-dedup sorted up)) (sorted_from_strictly_increasing (applicable parts state) (IsStrictlyIncreasing-filter p (range_with_len 0 n) (range_increasing 0 n)))
     (λ op has.
-        let in_found = Contains-permutation sorted found op (IsPermutation-sym found sorted moved) (Contains-from_dedup eqb sorted op has) in
-        let passes = is.only state op (All-contains (IsFound tree.nodes tree.operators state) found op are.only in_found) in
-        let lt = applicable-within parts state op passes in
-        has_filter p 0 n op (omega arith) (omega arith) passes)
+    let in_found = Contains-permutation sorted found op (IsPermutation-sym found sorted moved) (Contains-from_dedup eqb sorted op has) in
+    let passes = is.only state op (All-contains (IsFound tree.nodes tree.operators state) found op are.only in_found) in
+    let lt = applicable-within parts state op passes in
+    has_filter p 0 n op (omega arith) (omega arith) passes)
     (λ op has.
-        let passes : p op ≡ true = All-contains (λ o. p o ≡ true) (applicable parts state) op (filter_passes p (range_with_len 0 n)) has in
-        Contains-dedup_nat sorted op (Contains-permutation found sorted op moved (are.all op (is.found state op passes))))
+    let passes : p op ≡ true = All-contains (λ o. p o ≡ true) (applicable parts state) op (filter_passes p (range_with_len 0 n)) has in
+    Contains-dedup_nat sorted op (Contains-permutation found sorted op moved (are.all op (is.found state op passes))))

@@ -1,28 +1,27 @@
 -- How the nodes of a tree are laid out, one by one.
-use Rattle.std.proofs.Common.{◌≡◌, ◌∙◌, refl, sym, ap, subst, ℕ, zero, suc, ◌+◌, ◌-◌, ◌<◌, ◌≤◌, ◌⊎◌, inl, inr, List, [], ◌∷◌, ◌++◌, length, length-append, get_or, Bool, true, false, nat_lt, arith, slice_get, Some, None}
+use Rattle.std.proofs.Common.{◌≡◌, ◌∙◌, refl, sym, ap, subst, ℕ, ◌+◌, ◌<◌, ◌≤◌, inl, inr, List, [], ◌∷◌, ◌++◌, length, length-append, true, false, nat_lt, arith, slice_get, Some}
 use Rattle.std.specs.List.Sorted.{IsNonDecreasingBy}
 use Rattle.std.proofs.lemmas.Bool.Decides.{nat_tests}
 use Rattle.std.proofs.lemmas.Option.{slice_get_within, get_or_from_slice_get}
-use Rattle.sas_task.specs.declared.contents.Fact.{Fact}
 use Rattle.succ_gen.specs.declared.growing.Branch.{Branch}
 use Rattle.succ_gen.specs.declared.growing.Home.{Home}
 use Rattle.succ_gen.specs.declared.nodes.Node.{Node}
 use Rattle.succ_gen.specs.Growing.{parent_of, node_of}
-use Rattle.succ_gen.specs.Nodes.{IsBelow, IsCut, IsRun, IsNodeAt, AreNodes}
+use Rattle.succ_gen.specs.Nodes.{IsBelow, IsCut, IsRun, IsNodeAt}
 use Rattle.succ_gen.proofs.Ways.{get_push}
 
 -- ---- cuts
 
 below_by : {X : Type 0} (key : X → ℕ) (xs : List X) (number place : ℕ) (x : X) → IsBelow key xs number place → slice_get xs place ≡ Some x → key x < number → (k : ℕ) (y : X) → slice_get xs k ≡ Some y → k < place + 1 → key y < number
 below_by key xs number place x below at lt k y there low = elim (nat_lt k place) as (λ t. nat_lt k place ≡ t → key y < number) [
-    | true ↦ λ is. below.before k y there (grind (arith, nat_tests, is))
-    | false ↦ λ is.
-        let ge : place ≤ k = grind (arith, nat_tests, is) in
-        let place_is : k ≡ place = omega arith in
-        let e : Some y ≡ Some x = sym there ∙ (ap (slice_get xs) place_is ∙ at) in
-        let same : y ≡ x = cc in
-        subst (λ z. key z < number) (sym same) lt
-  ] refl
+  | true ↦ λ is. below.before k y there (grind (arith, nat_tests, is))
+  | false ↦ λ is.
+      let ge : place ≤ k = grind (arith, nat_tests, is) in
+      let place_is : k ≡ place = omega arith in
+      let e : Some y ≡ Some x = sym there ∙ (ap (slice_get xs) place_is ∙ at) in
+      let same : y ≡ x = cc in
+      subst (λ z. key z < number) (sym same) lt
+] refl
 
 pub below_more : {X : Type 0} (key : X → ℕ) (xs : List X) (number place : ℕ) (x : X) → IsBelow key xs number place → slice_get xs place ≡ Some x → key x < number → IsBelow key xs number (place + 1)
 below_more key xs number place x below at lt = record {
@@ -39,12 +38,6 @@ cut_at key xs number place x rising below at le = record {
       let one = ap key (get_or_from_slice_get xs place x y at) in
       let other = ap key (get_or_from_slice_get xs k y y there) in
       omega arith;
-}
-
-pub cut_end : {X : Type 0} (key : X → ℕ) (xs : List X) (number place : ℕ) → length xs ≤ place → IsBelow key xs number place → IsCut key xs number place
-cut_end key xs number place past below = record {
-  below = below;
-  after = λ k y there ge. (let lt = slice_get_within xs k y there in absurd (omega arith));
 }
 
 pub cut_length : {X : Type 0} (key : X → ℕ) (xs : List X) (number place : ℕ) → length xs ≤ place → IsBelow key xs number place → IsCut key xs number (length xs)
@@ -65,38 +58,6 @@ below_next key xs number place cut = record {
 pub record AreSiblings (branches : List Branch) (number next : ℕ) (first : Branch) : Type 0 where
   pub each : (d : ℕ) (b : Branch) → number ≤ d + 1 → d < next → slice_get branches d ≡ Some b → (b.parent ≡ first.parent) × (b.fact.var ≡ first.fact.var)
 
-pub siblings_start : (branches : List Branch) (number place : ℕ) (first : Branch) → slice_get branches place ≡ Some first → number ≡ place + 1 → AreSiblings branches number number first
-siblings_start branches number place first at is = record {
-  each = λ d b low high there.
-      let place_is : d ≡ place = omega arith in
-      let e : Some b ≡ Some first = sym there ∙ (ap (slice_get branches) place_is ∙ at) in
-      let same : b ≡ first = cc in
-      (ap (λ (x : Branch). x.parent) same, ap (λ (x : Branch). x.fact.var) same)
-}
-
-pub siblings_more : (branches : List Branch) (number next : ℕ) (first b : Branch) → AreSiblings branches number next first → slice_get branches next ≡ Some b → b.parent ≡ first.parent → b.fact.var ≡ first.fact.var → AreSiblings branches number (next + 1) first
-siblings_more branches number next first b are at parent var = record { each = by }
-  where
-    by : (d : ℕ) (x : Branch) → number ≤ d + 1 → d < next + 1 → slice_get branches d ≡ Some x → (x.parent ≡ first.parent) × (x.fact.var ≡ first.fact.var)
-    by d x low high there = elim (nat_lt d next) as (λ t. nat_lt d next ≡ t → (x.parent ≡ first.parent) × (x.fact.var ≡ first.fact.var)) [
-        | true ↦ λ is. are.each d x low (grind (arith, nat_tests, is)) there
-        | false ↦ λ is.
-            let ge : next ≤ d = grind (arith, nat_tests, is) in
-            let place_is : d ≡ next = omega arith in
-            let e : Some x ≡ Some b = sym there ∙ (ap (slice_get branches) place_is ∙ at) in
-            let same : x ≡ b = cc in
-            (ap (λ (y : Branch). y.parent) same ∙ parent, ap (λ (y : Branch). y.fact.var) same ∙ var)
-      ] refl
-
-pub siblings_run : (branches : List Branch) (number next : ℕ) (first : Branch) → next ≤ length branches → AreSiblings branches number next first → IsRun branches number (next + 1)
-siblings_run branches number next first within are = record {
-  inside = omega arith;
-  same = λ c d a b low le high at_a at_b.
-      let one = are.each c a low (omega arith) at_a in
-      let other = are.each d b (omega arith) (omega arith) at_b in
-      (one.0 ∙ sym other.0, one.1 ∙ sym other.1);
-}
-
 -- ---- nodes
 
 -- so many nodes are laid out
@@ -107,28 +68,19 @@ pub record AreNodesTo (branches : List Branch) (homes : List Home) (number child
   pub home_below : IsBelow node_of homes number home
   pub run : IsRun branches number group
 
-pub nodes_none : (branches : List Branch) (homes : List Home) (nodes : List Node) → nodes ≡ [] → AreNodesTo branches homes 0 0 0 0 nodes
-nodes_none branches homes nodes none = rw none (record {
-  long = refl;
-  each = λ n node at. let k : ◌≡◌ {A = _} None (Some node) = at in absurd (cc);
-  child_below = record { within = omega arith; before = λ k x at lt. absurd (omega arith) };
-  home_below = record { within = omega arith; before = λ k x at lt. absurd (omega arith) };
-  run = record { inside = omega arith; same = λ c d a b low le high. absurd (omega arith) };
-})
-
 pub nodes_more : (branches : List Branch) (homes : List Home) (number child home group new_child new_home new_group : ℕ) (nodes now : List Node) (node : Node) → AreNodesTo branches homes number child home group nodes → IsCut parent_of branches number new_child → IsCut node_of homes number new_home → IsRun branches number new_group →
     ((c : ℕ) → number ≡ c + 1 → c < length branches → number < new_group) → ((c : ℕ) (b : Branch) → number ≡ c + 1 → slice_get branches c ≡ Some b → node.fact ≡ b.fact) → node.group_end ≡ new_group → node.children ≡ new_child + 1 → node.operators ≡ new_home → now ≡ nodes ++ node ∷ [] →
     AreNodesTo branches homes (number + 1) new_child new_home new_group now
 nodes_more branches homes number child home group new_child new_home new_group nodes now node are child_cut home_cut run onwards fact group_is children_is operators_is more = rw more (record {
-    long = omega (arith, are.long, length-append nodes (node ∷ []));
-    each = λ n x at. elim (get_push nodes node n x at) [
-      | inl before ↦ are.each n x before
-      | inr here ↦ subst (λ (y : Node). IsNodeAt branches homes n y) (sym here.1) (subst (λ k. IsNodeAt branches homes k node) (let e : number ≡ n = (let long = are.long in let place = here.0 in omega arith) in e) own)
-    ];
-    child_below = below_next parent_of branches number new_child child_cut;
-    home_below = below_next node_of homes number new_home home_cut;
-    run = record { inside = run.inside; same = λ c d a b low le high at_a at_b. run.same c d a b (omega arith) le high at_a at_b };
-  })
+  long = omega (arith, are.long, length-append nodes (node ∷ []));
+  each = λ n x at. elim (get_push nodes node n x at) [
+    | inl before ↦ are.each n x before
+    | inr here ↦ subst (λ (y : Node). IsNodeAt branches homes n y) (sym here.1) (subst (λ k. IsNodeAt branches homes k node) (let e : number ≡ n = (let long = are.long in let place = here.0 in omega arith) in e) own)
+  ];
+  child_below = below_next parent_of branches number new_child child_cut;
+  home_below = below_next node_of homes number new_home home_cut;
+  run = record { inside = run.inside; same = λ c d a b low le high at_a at_b. run.same c d a b (omega arith) le high at_a at_b };
+})
   where
     own : IsNodeAt branches homes number node
     own = record {
@@ -140,6 +92,3 @@ nodes_more branches homes number child home group new_child new_home new_group n
       children_cut = child_cut;
       operators_cut = subst (IsCut node_of homes number) (sym operators_is) home_cut;
     }
-
-pub nodes_all : (branches : List Branch) (homes : List Home) (number child home group : ℕ) (nodes : List Node) → number ≡ length branches + 2 → AreNodesTo branches homes number child home group nodes → AreNodes branches homes nodes
-nodes_all branches homes number child home group nodes past are = record { long = are.long ∙ past; each = are.each }

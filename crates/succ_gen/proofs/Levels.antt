@@ -1,7 +1,7 @@
 -- How a level of a tree is made.
-use Rattle.std.proofs.Common.{◌≡◌, ◌∙◌, refl, sym, ap, subst, ℕ, zero, suc, ◌+◌, ◌-◌, ◌<◌, ◌≤◌, ◌⊎◌, inl, inr, List, [], ◌∷◌, ◌++◌, length, length-append, map, take, drop, get_or, append_assoc, append-nil, arith, slice_get, Option, Some, None, Bool, true, false, nat_lt, nat_eq}
+use Rattle.std.proofs.Common.{◌≡◌, ◌∙◌, refl, sym, ap, subst, ℕ, zero, suc, ◌+◌, ◌-◌, ◌<◌, ◌≤◌, ◌⊎◌, inl, inr, List, [], ◌∷◌, ◌++◌, length, length-append, take, drop, get_or, append_assoc, append-nil, arith, slice_get, Option, Some, None, true, false, nat_lt, nat_eq}
 use Rattle.std.specs.List.{range_with_len}
-use Rattle.std.specs.List.Sorted.{IsNonDecreasingBy, IsPermutation, IsSorted}
+use Rattle.std.specs.List.Sorted.{IsPermutation, IsSorted}
 use Rattle.std.specs.Ordering.{nat_cmp, ordering_then, is_lt}
 use Rattle.std.specs.declared.cmp.Ordering.{Ordering}
 use Rattle.std.specs.declared.cmp.Ordering.TheVariants.{Equal}
@@ -17,7 +17,7 @@ use Rattle.succ_gen.specs.declared.growing.Step.{Step}
 use Rattle.succ_gen.specs.Branches.{ways, branch_of, EndsIn, AddsBranch, IsPlaced}
 use Rattle.succ_gen.specs.Conditions.{IsCondition}
 use Rattle.succ_gen.specs.Growing.{parent_of, node_of, operators_at, operators_going, IsHome, IsGrown, IsStepAt, IsLevel, AreInOrder, IsWhole}
-use Rattle.succ_gen.proofs.Ways.{get_push, way-branch, way-push, way-last, way-root, ends_push, ends_within}
+use Rattle.succ_gen.proofs.Ways.{get_push, way-push, way-last}
 
 take-some : {X : Type 0} (xs : List X) (m : ℕ) (x : X) → slice_get xs m ≡ Some x → take (m + 1) xs ≡ take m xs ++ x ∷ []
 take-some xs m x is = by (m + 1) (omega arith) ∙ more xs m x is
@@ -241,22 +241,22 @@ record Branched (conditions : List (List Fact)) (depth : ℕ) (steps : List Step
 branched : (conditions : List (List Fact)) (depth : ℕ) (steps : List Step) (start i : ℕ) (branches new : List Branch) (homes : List Home) (next : List Step) (s : Step) →
     IsBetween conditions depth steps start i branches homes next → AreInOrder steps → slice_get steps i ≡ Some s → AddsBranch s branches new → Branched conditions depth steps start branches new homes next
 branched conditions depth steps start i branches new homes next s between order at adds = elim adds.cases [
-    | inl same ↦
-        let ends : EndsIn branches (branch_of s) = subst (λ bs. EndsIn bs (branch_of s)) same adds.ends in
-        rw same (record { grown = between.grown; kept = λ d t is. is; parents = between.parents; long = some i between at ends })
-    | inr more ↦
-        let node = (between.comes i s at).node in
-        let few : length branches + 1 < 4294967294 = omega (arith, adds.few, ap length more.1, length-append branches (branch_of s ∷ [])) in
-        rw more.1 (record {
-          grown = grow_branch conditions branches homes s between.grown few node (record { operator = s.operator; place = depth; at = (between.comes i s at).next }) (next_step conditions depth steps start i branches homes next s between order at) more.0;
-          kept = λ d t is. step_kept conditions d branches (branch_of s) t is;
-          parents = λ c b there. elim (get_push branches (branch_of s) c b there) [
-            | inl before ↦ between.parents c b before
-            | inr here ↦ let is : b.parent ≡ s.node = ap (λ (x : Branch). x.parent) here.1 in let low = between.low i s at in omega arith
-          ];
-          long = omega (arith, between.grows, length-append branches (branch_of s ∷ []));
-        })
-  ]
+  | inl same ↦
+      let ends : EndsIn branches (branch_of s) = subst (λ bs. EndsIn bs (branch_of s)) same adds.ends in
+      rw same (record { grown = between.grown; kept = λ d t is. is; parents = between.parents; long = some i between at ends })
+  | inr more ↦
+      let node = (between.comes i s at).node in
+      let few : length branches + 1 < 4294967294 = omega (arith, adds.few, ap length more.1, length-append branches (branch_of s ∷ [])) in
+      rw more.1 (record {
+        grown = grow_branch conditions branches homes s between.grown few node (record { operator = s.operator; place = depth; at = (between.comes i s at).next }) (next_step conditions depth steps start i branches homes next s between order at) more.0;
+        kept = λ d t is. step_kept conditions d branches (branch_of s) t is;
+        parents = λ c b there. elim (get_push branches (branch_of s) c b there) [
+          | inl before ↦ between.parents c b before
+          | inr here ↦ let is : b.parent ≡ s.node = ap (λ (x : Branch). x.parent) here.1 in let low = between.low i s at in omega arith
+        ];
+        long = omega (arith, between.grows, length-append branches (branch_of s ∷ []));
+      })
+]
   where
     some : (i : ℕ) → IsBetween conditions depth steps start i branches homes next → slice_get steps i ≡ Some s → EndsIn branches (branch_of s) → start < length branches
     some zero between at ends = let lt : s.node < s.node = between.fresh refl (length branches - 1) 0 (branch_of s) s ends.last at in absurd (omega arith)
@@ -290,11 +290,11 @@ between_more conditions depth steps start i branches new homes new_homes next ne
 
 pub between_all : (conditions : List (List Fact)) (depth : ℕ) (steps : List Step) (start i : ℕ) (branches : List Branch) (homes : List Home) (next : List Step) → length steps ≤ i → IsBetween conditions depth steps start i branches homes next → IsLevel conditions (depth + 1) branches homes next
 between_all conditions depth steps start i branches homes next past between = record {
-    grown = between.grown;
-    comes = λ k s at. (between.goes k s at).0;
-    all = subst (λ ops. IsPermutation (range_with_len 0 (length conditions)) (operators_at homes ++ ops)) (ap (λ ss. operators_going next ++ operators_going ss) (drop_all i steps past) ∙ append-nil (operators_going next)) between.all;
-    fresh = λ c k b s at_b at_s. let le = between.parents c b at_b in let lt = (between.goes k s at_s).1 in omega arith;
-  }
+  grown = between.grown;
+  comes = λ k s at. (between.goes k s at).0;
+  all = subst (λ ops. IsPermutation (range_with_len 0 (length conditions)) (operators_at homes ++ ops)) (ap (λ ss. operators_going next ++ operators_going ss) (drop_all i steps past) ∙ append-nil (operators_going next)) between.all;
+  fresh = λ c k b s at_b at_s. let le = between.parents c b at_b in let lt = (between.goes k s at_s).1 in omega arith;
+}
 
 -- ---- all operators at the root
 
@@ -303,24 +303,6 @@ pub record ArePlaced (conditions : List (List Fact)) (i : ℕ) (homes : List Hom
   pub grown : IsGrown conditions [] homes
   pub comes : (k : ℕ) (s : Step) → slice_get steps k ≡ Some s → IsStepAt conditions 0 [] s
   pub all : IsPermutation (range_with_len 0 i) (operators_at homes ++ operators_going steps)
-
-grown_none : (conditions : List (List Fact)) → IsGrown conditions [] []
-grown_none conditions = record {
-  few = omega arith;
-  parents = λ i j d le lt. absurd (omega arith);
-  earlier = λ c b at. let k : ◌≡◌ {A = _} None (Some b) = at in absurd (cc);
-  rising = λ c a b at_a at_b same var. let k : ◌≡◌ {A = _} None (Some a) = at_a in absurd (cc);
-  known = λ c b at. let k : ◌≡◌ {A = _} None (Some b) = at in absurd (cc);
-  stands = λ k h at. let e : ◌≡◌ {A = _} None (Some h) = at in absurd (cc);
-  nodes = λ i j d le lt. absurd (omega arith);
-}
-
-pub places_none : (conditions : List (List Fact)) (homes : List Home) (steps : List Step) → homes ≡ [] → steps ≡ [] → ArePlaced conditions 0 homes steps
-places_none conditions homes steps no_homes no_steps = rw (no_homes, no_steps) (record {
-  grown = grown_none conditions;
-  comes = λ k s at. let e : ◌≡◌ {A = _} None (Some s) = at in absurd (cc);
-  all = IsPermutation-refl [];
-})
 
 range_more : (a n m : ℕ) → a + n ≡ m → range_with_len a (n + 1) ≡ range_with_len a n ++ m ∷ []
 range_more a n m is = ap (range_with_len a) (let e : n + 1 ≡ suc n = omega arith in e) ∙ by a n m is
@@ -340,7 +322,7 @@ places_more conditions i node op homes new_homes steps new_steps so lt is_root i
         | inr here ↦ here.0
       ];
       all = subst (λ xs. IsPermutation xs (operators_at new_homes ++ operators_going new_steps)) (sym (range_more 0 i i (omega arith)))
-      (IsPermutation-trans (range_with_len 0 i ++ i ∷ []) ((operators_at homes ++ operators_going steps) ++ i ∷ []) (operators_at new_homes ++ operators_going new_steps) (IsPermutation-append_left (i ∷ []) (range_with_len 0 i) (operators_at homes ++ operators_going steps) so.all) puts.all);
+          (IsPermutation-trans (range_with_len 0 i ++ i ∷ []) ((operators_at homes ++ operators_going steps) ++ i ∷ []) (operators_at new_homes ++ operators_going new_steps) (IsPermutation-append_left (i ∷ []) (range_with_len 0 i) (operators_at homes ++ operators_going steps) so.all) puts.all);
     }
 
 pub places_all : (conditions : List (List Fact)) (i : ℕ) (homes : List Home) (steps : List Step) → i ≡ length conditions → ArePlaced conditions i homes steps → IsLevel conditions 0 [] homes steps
@@ -386,9 +368,9 @@ step_cmp a b = ordering_then (nat_cmp a.node b.node) (ordering_then (ordering_th
 
 not_below : (x y : ℕ) (o : Ordering) → is_lt (ordering_then (nat_cmp x y) o) ≡ false → y ≤ x
 not_below x y o is = elim (nat_lt x y) as (λ t. nat_lt x y ≡ t → y ≤ x) [
-    | true ↦ λ lt. (let k : true ≡ false = rw lt at is in absurd (cc))
-    | false ↦ λ ge. grind (arith, nat_tests, ge)
-  ] refl
+  | true ↦ λ lt. (let k : true ≡ false = rw lt at is in absurd (cc))
+  | false ↦ λ ge. grind (arith, nat_tests, ge)
+] refl
 
 same_cmp : (x y : ℕ) → x ≡ y → nat_cmp x y ≡ Equal
 same_cmp x y same =
@@ -405,9 +387,9 @@ value_not_below a b is node var =
 
 pub order_sorted : (sorted now : List Step) → IsSorted step_cmp sorted → now ≡ sorted → AreInOrder now
 order_sorted sorted now up is = rw is (record {
-    nodes = λ k a b at_a at_b. not_below b.node a.node (ordering_then (ordering_then (nat_cmp b.fact.var a.fact.var) (nat_cmp b.fact.val a.fact.val)) (nat_cmp b.operator a.operator)) (pair k a b at_a at_b);
-    values = λ k a b at_a at_b node var. value_not_below a b (pair k a b at_a at_b) node var;
-  })
+  nodes = λ k a b at_a at_b. not_below b.node a.node (ordering_then (ordering_then (nat_cmp b.fact.var a.fact.var) (nat_cmp b.fact.val a.fact.val)) (nat_cmp b.operator a.operator)) (pair k a b at_a at_b);
+  values = λ k a b at_a at_b node var. value_not_below a b (pair k a b at_a at_b) node var;
+})
   where
     pair : (k : ℕ) (a b : Step) → slice_get sorted k ≡ Some a → slice_get sorted (k + 1) ≡ Some b → is_lt (step_cmp b a) ≡ false
     pair k a b at_a at_b =

@@ -4,4 +4,5 @@ pub mod Levels
 pub mod Reaching
 pub mod Shapes
 pub mod Sorting
+pub mod Trees
 pub mod Ways

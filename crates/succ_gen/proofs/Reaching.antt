@@ -1,17 +1,16 @@
 -- The walk through a tree.
-use Rattle.std.proofs.Common.{◌≡◌, ◌∙◌, refl, sym, ap, subst, ℕ, zero, suc, ◌+◌, ◌-◌, ◌<◌, ◌≤◌, ◌⊎◌, inl, inr, List, [], ◌∷◌, ◌++◌, length, length-append, take, drop, get_or, filter, Bool, true, false, nat_eq, nat_lt, IsTrue, arith, slice_index, slice_range, min, option_to_list, Option, Some, None, append-nil, append_assoc}
+use Rattle.std.proofs.Common.{◌≡◌, ◌∙◌, refl, sym, ap, subst, ℕ, zero, suc, ◌+◌, ◌-◌, ◌<◌, ◌≤◌, List, [], ◌∷◌, ◌++◌, length, length-append, take, drop, get_or, filter, Bool, true, false, nat_eq, nat_lt, IsTrue, arith, slice_index, min, option_to_list, Option, Some, None, append-nil, append_assoc}
 use Rattle.std.specs.List.{All, Contains, flat_map, range_with_len}
 use Rattle.std.specs.List.Sorted.{IsStrictlyIncreasing}
 use Rattle.std.proofs.lemmas.Bool.Decides.{nat_tests}
-use Rattle.std.proofs.lemmas.List.{length-take, length-drop, take_more, take_all, take-append-le, get_or_append_left, get_or-append_right, get_or_default}
+use Rattle.std.proofs.lemmas.List.{length-take, take_more, take_all, take-append-le, get_or_append_left, get_or-append_right, get_or_default}
 use Rattle.std.proofs.lemmas.List.Concat.{flat_map-append}
 use Rattle.std.proofs.lemmas.List.Elements.{All-nil, All-cons, All-head, All-tail, All-append, All-weaker, Contains-get_or, Contains-append_left, Contains-append_right, filter-append}
 use Rattle.std.proofs.lemmas.List.FromFn.{length-range_with_len, get_or-range_with_len}
 use Rattle.std.proofs.lemmas.List.Kept.{IsStrictlyIncreasing-filter}
 use Rattle.sas_task.specs.States.{holds}
-use Rattle.sas_task.specs.declared.contents.Fact.{Fact}
 use Rattle.succ_gen.specs.declared.nodes.Node.{Node}
-use Rattle.succ_gen.specs.Trees.{node_at, IsChild, IsOpen, operators_of, IsFound, IsTree, HasVariables, AreInside}
+use Rattle.succ_gen.specs.Trees.{node_at, IsChild, IsOpen, operators_of, IsFound, IsTree}
 use Rattle.succ_gen.specs.Trees.IsOpen.{root, child}
 use Rattle.succ_gen.specs.Walks.{Rises, IsSought, opened, open_children, AreFound}
 
@@ -33,9 +32,6 @@ opened_join nodes state a b c low high =
     ap (range_with_len a) (let e : c - a ≡ (b - a) + (c - b) = omega arith in e) ∙ (range_append a (b - a) (c - b) ∙ ap (λ k. range_with_len a (b - a) ++ range_with_len k (c - b)) (let e : a + (b - a) ≡ b = omega arith in e)) in
     ap (filter p) whole ∙ filter-append p (range_with_len a (b - a)) (range_with_len b (c - b))
 
-pub opened_none : (nodes : List Node) (state : List ℕ) (a : ℕ) → opened nodes state a a ≡ []
-opened_none nodes state a = ap (λ n. filter (λ m. holds state (node_at nodes m).fact) (range_with_len a n)) (let e : a - a ≡ 0 = omega arith in e)
-
 filter_none : (p : ℕ → Bool) (a n : ℕ) → ((k : ℕ) → a ≤ k → k < a + n → p k ≡ false) → filter p (range_with_len a n) ≡ []
 filter_none p a zero none = refl
 filter_none p a (suc n) none =
@@ -45,23 +41,23 @@ filter_none p a (suc n) none =
 filter_one : (p : ℕ → Bool) (a n m : ℕ) → a ≤ m → m < a + n → p m ≡ true → ((k : ℕ) → a ≤ k → k < a + n → (k ≡ m → ⊥) → p k ≡ false) → filter p (range_with_len a n) ≡ m ∷ []
 filter_one p a zero m low high is others = absurd (omega arith)
 filter_one p a (suc n) m low high is others = elim (nat_eq a m) as (λ t. nat_eq a m ≡ t → filter p (range_with_len a (suc n)) ≡ m ∷ []) [
-    | true ↦ λ e.
-        let same : a ≡ m = grind (arith, nat_tests, e) in
-        let here : p a ≡ true = ap p same ∙ is in
-        rw here (ap (λ k. k ∷ filter p (range_with_len (a + 1) n)) same ∙ ap (λ xs. m ∷ xs) (filter_none p (a + 1) n (λ k lo hi. others k (omega arith) (omega arith) (λ e. absurd (omega arith)))))
-    | false ↦ λ e.
-        let differs : a ≡ m → ⊥ = λ same. absurd (grind (arith, nat_tests, e, same)) in
-        let here : p a ≡ false = others a (omega arith) (omega arith) differs in
-        rw here (filter_one p (a + 1) n m (grind (arith, nat_tests, e, low)) (omega arith) is (λ k lo hi no. others k (omega arith) (omega arith) no))
-  ] refl
+  | true ↦ λ e.
+      let same : a ≡ m = grind (arith, nat_tests, e) in
+      let here : p a ≡ true = ap p same ∙ is in
+      rw here (ap (λ k. k ∷ filter p (range_with_len (a + 1) n)) same ∙ ap (λ xs. m ∷ xs) (filter_none p (a + 1) n (λ k lo hi. others k (omega arith) (omega arith) (λ e. absurd (omega arith)))))
+  | false ↦ λ e.
+      let differs : a ≡ m → ⊥ = λ same. absurd (grind (arith, nat_tests, e, same)) in
+      let here : p a ≡ false = others a (omega arith) (omega arith) differs in
+      rw here (filter_one p (a + 1) n m (grind (arith, nat_tests, e, low)) (omega arith) is (λ k lo hi no. others k (omega arith) (omega arith) no))
+] refl
 
 -- ---- a group
 
 not_eq : (m n : ℕ) → (m ≡ n → ⊥) → nat_eq m n ≡ false
 not_eq m n differs = elim (nat_eq m n) as (λ t. nat_eq m n ≡ t → nat_eq m n ≡ false) [
-    | true ↦ λ e. absurd (differs (grind (arith, nat_tests, e)))
-    | false ↦ λ e. e
-  ] refl
+  | true ↦ λ e. absurd (differs (grind (arith, nat_tests, e)))
+  | false ↦ λ e. e
+] refl
 
 is_eq : (m n : ℕ) → m ≡ n → nat_eq m n ≡ true
 is_eq m n same = grind (arith, nat_tests, same)
@@ -76,18 +72,18 @@ group_opened nodes state start value found tree some inside is sought = by found
 
     apart : (k : ℕ) → start ≤ k → k < (node_at nodes start).group_end → (m : ℕ) → start ≤ m → m < (node_at nodes start).group_end → (node_at nodes m).fact.val ≡ value → (k ≡ m → ⊥) → value ≡ (node_at nodes k).fact.val → ⊥
     apart k lo to m low high val differs e = elim (nat_lt k m) as (λ t. nat_lt k m ≡ t → ⊥) [
-        | true ↦ λ before.
-            let lt : k < m = grind (arith, nat_tests, before) in
-            let place : k + (m - k) ≡ m = omega arith in
-            let rises : (node_at nodes k).fact.val + (m - k) ≤ (node_at nodes m).fact.val = subst (λ j. (node_at nodes k).fact.val + (m - k) ≤ (node_at nodes j).fact.val) place (tree.rising start k (m - k) some inside lo (omega arith)) in
-            absurd (omega arith)
-        | false ↦ λ behind.
-            let ge : m ≤ k = grind (arith, nat_tests, behind) in
-            let lt : m < k = omega (arith, differs) in
-            let place : m + (k - m) ≡ k = omega arith in
-            let rises : (node_at nodes m).fact.val + (k - m) ≤ (node_at nodes k).fact.val = subst (λ j. (node_at nodes m).fact.val + (k - m) ≤ (node_at nodes j).fact.val) place (tree.rising start m (k - m) some inside low (omega arith)) in
-            absurd (omega arith)
-      ] refl
+      | true ↦ λ before.
+          let lt : k < m = grind (arith, nat_tests, before) in
+          let place : k + (m - k) ≡ m = omega arith in
+          let rises : (node_at nodes k).fact.val + (m - k) ≤ (node_at nodes m).fact.val = subst (λ j. (node_at nodes k).fact.val + (m - k) ≤ (node_at nodes j).fact.val) place (tree.rising start k (m - k) some inside lo (omega arith)) in
+          absurd (omega arith)
+      | false ↦ λ behind.
+          let ge : m ≤ k = grind (arith, nat_tests, behind) in
+          let lt : m < k = omega (arith, differs) in
+          let place : m + (k - m) ≡ k = omega arith in
+          let rises : (node_at nodes m).fact.val + (k - m) ≤ (node_at nodes k).fact.val = subst (λ j. (node_at nodes m).fact.val + (k - m) ≤ (node_at nodes j).fact.val) place (tree.rising start m (k - m) some inside low (omega arith)) in
+          absurd (omega arith)
+    ] refl
 
     by : (o : Option ℕ) → IsSought nodes start (node_at nodes start).group_end value o → opened nodes state start (node_at nodes start).group_end ≡ option_to_list o
     by None none = filter_none (λ m. holds state (node_at nodes m).fact) start ((node_at nodes start).group_end - start) (λ k low high.
@@ -98,8 +94,8 @@ group_opened nodes state start value found tree some inside is sought = by found
         let high : m < (node_at nodes start).group_end = one.1 in
         let val : (node_at nodes m).fact.val ≡ value = one.2 in
         filter_one (λ m. holds state (node_at nodes m).fact) start ((node_at nodes start).group_end - start) m low (omega arith) (at m low high ∙ is_eq value (node_at nodes m).fact.val (sym val)) (λ k lo hi differs.
-            let to : k < (node_at nodes start).group_end = omega arith in
-            at k lo to ∙ not_eq value (node_at nodes k).fact.val (λ e. apart k lo to m low high val differs e))
+        let to : k < (node_at nodes start).group_end = omega arith in
+        at k lo to ∙ not_eq value (node_at nodes k).fact.val (λ e. apart k lo to m low high val differs e))
 
 pub group_rises : (nodes : List Node) (start : ℕ) → IsTree nodes → 0 < start → start + 1 < length nodes → (node_at nodes start).group_end < length nodes → Rises nodes start (node_at nodes start).group_end
 group_rises nodes start tree some inside end = record {
@@ -153,17 +149,17 @@ contains_tail y x xs has = (suc has.0, (let lt : has.0 < length xs = has.1 in om
 pub has_filter : (p : ℕ → Bool) (a n m : ℕ) → a ≤ m → m < a + n → p m ≡ true → Contains (filter p (range_with_len a n)) m
 has_filter p a zero m low high is = absurd (omega arith)
 has_filter p a (suc n) m low high is = elim (nat_eq a m) as (λ t. nat_eq a m ≡ t → Contains (filter p (range_with_len a (suc n))) m) [
-    | true ↦ λ e.
-        let same : a ≡ m = grind (arith, nat_tests, e) in
-        let here : p a ≡ true = ap p same ∙ is in
-        rw here (zero, omega arith, same)
-    | false ↦ λ e.
-        let rest = has_filter p (a + 1) n m (grind (arith, nat_tests, e, low)) (omega arith) is in
-        elim (p a) as (λ t. p a ≡ t → Contains (filter p (range_with_len a (suc n))) m) [
-          | true ↦ λ passes. rw passes (contains_tail a m (filter p (range_with_len (a + 1) n)) rest)
-          | false ↦ λ fails. rw fails rest
-        ] refl
-  ] refl
+  | true ↦ λ e.
+      let same : a ≡ m = grind (arith, nat_tests, e) in
+      let here : p a ≡ true = ap p same ∙ is in
+      rw here (zero, omega arith, same)
+  | false ↦ λ e.
+      let rest = has_filter p (a + 1) n m (grind (arith, nat_tests, e, low)) (omega arith) is in
+      elim (p a) as (λ t. p a ≡ t → Contains (filter p (range_with_len a (suc n))) m) [
+        | true ↦ λ passes. rw passes (contains_tail a m (filter p (range_with_len (a + 1) n)) rest)
+        | false ↦ λ fails. rw fails rest
+      ] refl
+] refl
 
 -- what a filter leaves of numbers in a row
 pub record IsKept (p : ℕ → Bool) (a b m : ℕ) : Type 0 where
@@ -248,16 +244,16 @@ closed_more : (nodes : List Node) (state reached added : List ℕ) (place x : �
     ((k m : ℕ) → k < place → IsChild nodes (slice_index reached k) m → IsTrue (holds state (node_at nodes m).fact) → Contains reached m) → ((m : ℕ) → IsChild nodes x m → IsTrue (holds state (node_at nodes m).fact) → Contains added m) →
     (k m : ℕ) → k < place + 1 → IsChild nodes (slice_index (reached ++ added) k) m → IsTrue (holds state (node_at nodes m).fact) → Contains (reached ++ added) m
 closed_more nodes state reached added place x lt is closed has k m low is_child holds_now = elim (nat_lt k place) as (λ t. nat_lt k place ≡ t → Contains (reached ++ added) m) [
-    | true ↦ λ before.
-        let front : k < place = grind (arith, nat_tests, before) in
-        let same = get_or_append_left reached added 0 k (omega arith) in
-        Contains-append_left reached added m (closed k m front (subst (λ n. IsChild nodes n m) same is_child) holds_now)
-    | false ↦ λ now.
-        let ge : place ≤ k = grind (arith, nat_tests, now) in
-        let same : k ≡ place = omega arith in
-        let at : slice_index (reached ++ added) k ≡ x = ap (slice_index (reached ++ added)) same ∙ (get_or_append_left reached added 0 place lt ∙ sym is) in
-        Contains-append_right reached added m (has m (subst (λ n. IsChild nodes n m) at is_child) holds_now)
-  ] refl
+  | true ↦ λ before.
+      let front : k < place = grind (arith, nat_tests, before) in
+      let same = get_or_append_left reached added 0 k (omega arith) in
+      Contains-append_left reached added m (closed k m front (subst (λ n. IsChild nodes n m) same is_child) holds_now)
+  | false ↦ λ now.
+      let ge : place ≤ k = grind (arith, nat_tests, now) in
+      let same : k ≡ place = omega arith in
+      let at : slice_index (reached ++ added) k ≡ x = ap (slice_index (reached ++ added)) same ∙ (get_or_append_left reached added 0 place lt ∙ sym is) in
+      Contains-append_right reached added m (has m (subst (λ n. IsChild nodes n m) at is_child) holds_now)
+] refl
 
 -- one node more is looked at
 walking_on : (nodes : List Node) (operators state reached added out : List ℕ) (place x : ℕ) → IsTree nodes → place < length reached → x ≡ slice_index reached place → x + 1 < length nodes → IsOpen nodes state x → IsWalking nodes operators state reached out place →
@@ -269,13 +265,13 @@ walking_on nodes operators state reached added out place x tree lt is inside ope
     let up : IsStrictlyIncreasing (reached ++ added) = increasing_append reached added (node_at nodes x).children walking.increasing rising old_below (All-weaker (IsAdded nodes state x) (λ m. (node_at nodes x).children ≤ m) (λ m a. a.is_child.from) added all) in
     let here : All (λ n. n + 1 < length nodes) (reached ++ added) = All-append (λ n. n + 1 < length nodes) reached added walking.inside (All-weaker (IsAdded nodes state x) (λ n. n + 1 < length nodes) (λ m a. (let to = a.is_child.to in let low = tree.few (x + 1) inside in omega arith)) added all) in
     let bound : place + 1 < length (reached ++ added) → (node_at nodes (x + 1)).children ≤ (node_at nodes (slice_index (reached ++ added) (place + 1))).children = λ more.
-        let after = next_after nodes reached added place x lt is up more in
-        let within = here (place + 1) 0 more in
-        tree.children (x + 1) (slice_index (reached ++ added) (place + 1)) after (omega arith) in
+    let after = next_after nodes reached added place x lt is up more in
+    let within = here (place + 1) 0 more in
+    tree.children (x + 1) (slice_index (reached ++ added) (place + 1)) after (omega arith) in
     let bound_operators : place + 1 < length (reached ++ added) → (node_at nodes (x + 1)).operators ≤ (node_at nodes (slice_index (reached ++ added) (place + 1))).operators = λ more.
-        let after = next_after nodes reached added place x lt is up more in
-        let within = here (place + 1) 0 more in
-        tree.operators (x + 1) (slice_index (reached ++ added) (place + 1)) after (omega arith) in
+    let after = next_after nodes reached added place x lt is up more in
+    let within = here (place + 1) 0 more in
+    tree.operators (x + 1) (slice_index (reached ++ added) (place + 1)) after (omega arith) in
     let own : (node_at nodes x).children ≤ (node_at nodes (x + 1)).children = tree.children x (x + 1) (omega arith) inside in
     let own_operators : (node_at nodes x).operators ≤ (node_at nodes (x + 1)).operators = tree.operators x (x + 1) (omega arith) inside in
     let out_long = length-append out (operators_of nodes operators x) in
@@ -288,8 +284,8 @@ walking_on nodes operators state reached added out place x tree lt is inside ope
       closed = closed_more nodes state reached added place x lt is walking.closed has;
       increasing = up;
       below = λ more. All-append (λ n. n < (node_at nodes (slice_index (reached ++ added) (place + 1))).children) reached added
-        (All-weaker (λ n. n < (node_at nodes x).children) (λ n. n < (node_at nodes (slice_index (reached ++ added) (place + 1))).children) (λ n low. (let high = bound more in omega arith)) reached old_below)
-        (All-weaker (IsAdded nodes state x) (λ n. n < (node_at nodes (slice_index (reached ++ added) (place + 1))).children) (λ n a. (let high = bound more in let low = a.is_child.to in omega arith)) added all);
+          (All-weaker (λ n. n < (node_at nodes x).children) (λ n. n < (node_at nodes (slice_index (reached ++ added) (place + 1))).children) (λ n low. (let high = bound more in omega arith)) reached old_below)
+          (All-weaker (IsAdded nodes state x) (λ n. n < (node_at nodes (slice_index (reached ++ added) (place + 1))).children) (λ n a. (let high = bound more in let low = a.is_child.to in omega arith)) added all);
       few = λ more. (let high = bound more in omega arith);
       so_far = same_out;
       fits = λ more. (let high = bound_operators more in omega arith);
@@ -348,14 +344,6 @@ pub record IsSearched (nodes : List Node) (from to value start end : ℕ) : Type
   pub before : (m : ℕ) → from ≤ m → m < start → (node_at nodes m).fact.val < value
   pub behind : (m : ℕ) → end ≤ m → m < to → value < (node_at nodes m).fact.val
 
-pub searched_start : (nodes : List Node) (from to value : ℕ) → IsSearched nodes from to value from to
-searched_start nodes from to value = record {
-  low = omega arith;
-  high = omega arith;
-  before = λ m low high. absurd (omega arith);
-  behind = λ m low high. absurd (omega arith);
-}
-
 rises_to : (nodes : List Node) (from to i j : ℕ) → Rises nodes from to → from ≤ i → i ≤ j → j < to → (node_at nodes i).fact.val + (j - i) ≤ (node_at nodes j).fact.val
 rises_to nodes from to i j rises low le high =
     let place : i + (j - i) ≡ j = omega arith in
@@ -383,12 +371,6 @@ searched_left nodes from to value start end middle rises le lt high is = record 
       omega arith;
 }
 
-pub searched_all : (nodes : List Node) (from to value start end : ℕ) → end ≤ start → IsSearched nodes from to value start end → (m : ℕ) → from ≤ m → m < to → (node_at nodes m).fact.val ≡ value → ⊥
-searched_all nodes from to value start end past is m low high same = elim (nat_lt m start) as (λ t. nat_lt m start ≡ t → ⊥) [
-    | true ↦ λ lt. (let below = is.before m low (grind (arith, nat_tests, lt)) in absurd (omega arith))
-    | false ↦ λ ge. (let from_end : end ≤ m = (let le : start ≤ m = grind (arith, nat_tests, ge) in omega arith) in let above = is.behind m from_end high in absurd (omega arith))
-  ] refl
-
 -- a value below the first stands nowhere
 pub none_below : (nodes : List Node) (from to value : ℕ) → Rises nodes from to → from < to → value < (node_at nodes from).fact.val → (m : ℕ) → from ≤ m → m < to → (node_at nodes m).fact.val ≡ value → ⊥
 none_below nodes from to value rises some lt m low high same =
@@ -399,13 +381,13 @@ none_below nodes from to value rises some lt m low high same =
 none_nearer : (nodes : List Node) (from to end farthest value : ℕ) → Rises nodes from to → from < to → farthest + (node_at nodes from).fact.val ≡ from + value → (farthest < to → (node_at nodes farthest).fact.val ≡ value → ⊥) → end ≡ min to farthest → ((m : ℕ) → from ≤ m → m < end → (node_at nodes m).fact.val ≡ value → ⊥) →
     (m : ℕ) → from ≤ m → m < to → (node_at nodes m).fact.val ≡ value → ⊥
 none_nearer nodes from to end farthest value rises some far not_there is none m low high same = elim (nat_lt m end) as (λ t. nat_lt m end ≡ t → ⊥) [
-    | true ↦ λ lt. none m low (grind (arith, nat_tests, lt)) same
-    | false ↦ λ ge.
-        let past : end ≤ m = grind (arith, nat_tests, ge) in
-        let up = rises_to nodes from to from m rises (omega arith) low high in
-        let place : m ≡ farthest = omega arith in
-        not_there (omega arith) (subst (λ k. (node_at nodes k).fact.val ≡ value) place same)
-  ] refl
+  | true ↦ λ lt. none m low (grind (arith, nat_tests, lt)) same
+  | false ↦ λ ge.
+      let past : end ≤ m = grind (arith, nat_tests, ge) in
+      let up = rises_to nodes from to from m rises (omega arith) low high in
+      let place : m ≡ farthest = omega arith in
+      not_there (omega arith) (subst (λ k. (node_at nodes k).fact.val ≡ value) place same)
+] refl
 
 pub sought_nearer : (nodes : List Node) (from to end farthest value : ℕ) (found : Option ℕ) → Rises nodes from to → from < to → farthest + (node_at nodes from).fact.val ≡ from + value → (farthest < to → (node_at nodes farthest).fact.val ≡ value → ⊥) → end ≡ min to farthest → IsSought nodes from end value found → IsSought nodes from to value found
 sought_nearer nodes from to end farthest value None rises some far not_there is none = none_nearer nodes from to end farthest value rises some far not_there is none

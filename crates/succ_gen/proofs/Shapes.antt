@@ -1,7 +1,6 @@
 -- What nodes tell of the branches and operators that they stand for.
-use Rattle.std.proofs.Common.{◌≡◌, ◌∙◌, refl, sym, ap, subst, ℕ, zero, suc, ◌+◌, ◌-◌, ◌<◌, ◌≤◌, List, [], ◌∷◌, ◌++◌, length, map, take, drop, get_or, Bool, true, false, ◌&&◌, nat_lt, IsTrue, arith, slice_get, slice_range, option_map, Option, Some, None}
-use Rattle.std.specs.List.{list_all, Contains, range_with_len}
-use Rattle.std.specs.List.Sorted.{IsPermutation}
+use Rattle.std.proofs.Common.{◌≡◌, ◌∙◌, refl, sym, ap, ℕ, zero, suc, ◌+◌, ◌-◌, ◌<◌, ◌≤◌, List, [], ◌∷◌, length, drop, get_or, true, false, ◌&&◌, nat_lt, arith, slice_get, slice_range, option_map, Some}
+use Rattle.std.specs.List.{Contains, range_with_len}
 use Rattle.std.proofs.lemmas.Bool.Decides.{nat_tests}
 use Rattle.std.proofs.lemmas.List.{length-take, length-drop, length-map, get_or-take, get_or-drop}
 use Rattle.std.proofs.lemmas.List.Folds.{list_all-append}
@@ -17,9 +16,9 @@ use Rattle.succ_gen.specs.declared.growing.Home.{Home}
 use Rattle.succ_gen.specs.declared.nodes.Node.{Node}
 use Rattle.succ_gen.specs.Branches.{ways}
 use Rattle.succ_gen.specs.Conditions.{AreFactsBelow}
-use Rattle.succ_gen.specs.Growing.{parent_of, node_of, operators_at, IsHome, IsGrown, IsWhole}
-use Rattle.succ_gen.specs.Nodes.{IsBelow, IsCut, IsRun, IsNodeAt, AreNodes}
-use Rattle.succ_gen.specs.Trees.{node_at, IsChild, IsOpen, operators_of, IsFound, IsTree, HasVariables, AreInside}
+use Rattle.succ_gen.specs.Growing.{parent_of, node_of, operators_at, IsGrown, IsWhole}
+use Rattle.succ_gen.specs.Nodes.{IsCut, IsRun, IsNodeAt, AreNodes}
+use Rattle.succ_gen.specs.Trees.{node_at, IsChild, IsOpen, IsFound, IsTree, HasVariables, AreInside}
 use Rattle.succ_gen.specs.Trees.IsOpen.{root, child}
 use Rattle.succ_gen.proofs.Ways.{way-root, way-branch}
 
@@ -32,9 +31,9 @@ there (x ∷ xs) (suc i) lt = there xs i (omega arith)
 
 cut_rises : {X : Type 0} (key : X → ℕ) (xs : List X) (i j a b : ℕ) → i ≤ j → IsCut key xs i a → IsCut key xs j b → a ≤ b
 cut_rises key xs i j a b le at_i at_j = elim (nat_lt b a) as (λ t. nat_lt b a ≡ t → a ≤ b) [
-    | true ↦ λ is. (let lt : b < a = grind (arith, nat_tests, is) in absurd (none lt))
-    | false ↦ λ is. grind (arith, nat_tests, is)
-  ] refl
+  | true ↦ λ is. (let lt : b < a = grind (arith, nat_tests, is) in absurd (none lt))
+  | false ↦ λ is. grind (arith, nat_tests, is)
+] refl
   where
     none : b < a → ⊥
     none lt =
@@ -54,14 +53,15 @@ cut_between key xs n a b k x at_n at_next at le lt =
 -- and what has the number lies between
 cut_has : {X : Type 0} (key : X → ℕ) (xs : List X) (n a b k : ℕ) (x : X) → IsCut key xs n a → IsCut key xs (n + 1) b → slice_get xs k ≡ Some x → key x ≡ n → (a ≤ k) × (k < b)
 cut_has key xs n a b k x at_n at_next at is = (
-    elim (nat_lt k a) as (λ t. nat_lt k a ≡ t → a ≤ k) [
-      | true ↦ λ lt. (let below = at_n.below.before k x at (grind (arith, nat_tests, lt)) in absurd (omega arith))
-      | false ↦ λ ge. grind (arith, nat_tests, ge)
-    ] refl,
-    elim (nat_lt k b) as (λ t. nat_lt k b ≡ t → k < b) [
-      | true ↦ λ lt. grind (arith, nat_tests, lt)
-      | false ↦ λ ge. (let above = at_next.after k x at (grind (arith, nat_tests, ge)) in absurd (omega arith))
-    ] refl)
+  elim (nat_lt k a) as (λ t. nat_lt k a ≡ t → a ≤ k) [
+    | true ↦ λ lt. (let below = at_n.below.before k x at (grind (arith, nat_tests, lt)) in absurd (omega arith))
+    | false ↦ λ ge. grind (arith, nat_tests, ge)
+  ] refl,
+  elim (nat_lt k b) as (λ t. nat_lt k b ≡ t → k < b) [
+    | true ↦ λ lt. grind (arith, nat_tests, lt)
+    | false ↦ λ ge. (let above = at_next.after k x at (grind (arith, nat_tests, ge)) in absurd (omega arith))
+  ] refl,
+)
 
 -- ---- nodes and branches
 
@@ -233,9 +233,9 @@ same_variable branches homes nodes m q are some le lt run =
 -- a group ends with the children of its parent
 group_within : (branches : List Branch) (homes : List Home) (nodes : List Node) (n m : ℕ) → AreNodes branches homes nodes → IsChild nodes n m → (node_at nodes m).group_end ≤ (node_at nodes (n + 1)).children
 group_within branches homes nodes n m are is = elim (nat_lt (node_at nodes (n + 1)).children (node_at nodes m).group_end) as (λ t. nat_lt (node_at nodes (n + 1)).children (node_at nodes m).group_end ≡ t → (node_at nodes m).group_end ≤ (node_at nodes (n + 1)).children) [
-    | true ↦ λ lt. absurd (beyond (grind (arith, nat_tests, lt)))
-    | false ↦ λ ge. grind (arith, nat_tests, ge)
-  ] refl
+  | true ↦ λ lt. absurd (beyond (grind (arith, nat_tests, lt)))
+  | false ↦ λ ge. grind (arith, nat_tests, ge)
+] refl
   where
     beyond : (node_at nodes (n + 1)).children < (node_at nodes m).group_end → ⊥
     beyond lt =
@@ -257,27 +257,27 @@ group_within branches homes nodes n m are is = elim (nat_lt (node_at nodes (n + 
 
 pub tree_shape : (conditions : List (List Fact)) (branches : List Branch) (homes : List Home) (nodes : List Node) → IsGrown conditions branches homes → AreNodes branches homes nodes → IsTree nodes
 tree_shape conditions branches homes nodes grown are = record {
-    some = omega (arith, are.long);
-    first = λ n lt. let e = (node_is branches homes nodes n are lt).children in omega arith;
-    children = λ i j le lt.
-        let one = node_is branches homes nodes i are (omega arith) in
-        let other = node_is branches homes nodes j are lt in
-        let rises = cut_rises parent_of branches i j one.child other.child le one.children_cut other.children_cut in
-        let a = one.children in
-        let b = other.children in
-        omega arith;
-    operators = λ i j le lt. cut_rises node_of homes i j (node_at nodes i).operators (node_at nodes j).operators le (node_is branches homes nodes i are (omega arith)).operators_cut (node_is branches homes nodes j are lt).operators_cut;
-    few = λ n lt.
-        let own = node_is branches homes nodes n are lt in
-        let e = own.children in
-        let within = own.children_cut.below.within in
-        let long = are.long in
-        omega arith;
-    onwards = λ m some lt. (node_is branches homes nodes m are (omega arith)).group (m - 1) (omega arith) (let long = are.long in omega arith);
-    within = λ n m is. group_within branches homes nodes n m are is;
-    same = λ m q some lt le to. same_variable branches homes nodes m q are some le to (node_is branches homes nodes m are (omega arith)).run;
-    rising = λ m i d some lt le to. rise conditions branches homes nodes m i grown are some le (node_is branches homes nodes m are (omega arith)).run d (i + d) refl to;
-  }
+  some = omega (arith, are.long);
+  first = λ n lt. let e = (node_is branches homes nodes n are lt).children in omega arith;
+  children = λ i j le lt.
+      let one = node_is branches homes nodes i are (omega arith) in
+      let other = node_is branches homes nodes j are lt in
+      let rises = cut_rises parent_of branches i j one.child other.child le one.children_cut other.children_cut in
+      let a = one.children in
+      let b = other.children in
+      omega arith;
+  operators = λ i j le lt. cut_rises node_of homes i j (node_at nodes i).operators (node_at nodes j).operators le (node_is branches homes nodes i are (omega arith)).operators_cut (node_is branches homes nodes j are lt).operators_cut;
+  few = λ n lt.
+      let own = node_is branches homes nodes n are lt in
+      let e = own.children in
+      let within = own.children_cut.below.within in
+      let long = are.long in
+      omega arith;
+  onwards = λ m some lt. (node_is branches homes nodes m are (omega arith)).group (m - 1) (omega arith) (let long = are.long in omega arith);
+  within = λ n m is. group_within branches homes nodes n m are is;
+  same = λ m q some lt le to. same_variable branches homes nodes m q are some le to (node_is branches homes nodes m are (omega arith)).run;
+  rising = λ m i d some lt le to. rise conditions branches homes nodes m i grown are some le (node_is branches homes nodes m are (omega arith)).run d (i + d) refl to;
+}
 
 pub operators_inside : (branches : List Branch) (homes : List Home) (nodes : List Node) (operators : List ℕ) → AreNodes branches homes nodes → operators ≡ operators_at homes → AreInside nodes (length operators)
 operators_inside branches homes nodes operators are is = record {
@@ -285,7 +285,7 @@ operators_inside branches homes nodes operators are is = record {
       let within = (node_is branches homes nodes n are lt).operators_cut.below.within in
       let long = length-map homes (λ (h : Home). h.operator) in
       let e = ap (λ (xs : List ℕ). length xs) is in
-      omega arith
+      omega arith;
 }
 
 pub has_variables : (conditions : List (List Fact)) (branches : List Branch) (homes : List Home) (nodes : List Node) (variables : ℕ) → IsGrown conditions branches homes → AreNodes branches homes nodes → AreFactsBelow conditions variables → HasVariables nodes variables
@@ -297,5 +297,5 @@ has_variables conditions branches homes nodes variables grown are below = record
       let from = grown.known (m - 1) b.0 b.1 in
       let small = below.below b.0.fact from in
       let e : (node_at nodes m).fact.var ≡ b.0.fact.var = ap (λ (f : Fact). f.var) own in
-      omega arith
+      omega arith;
 }

@@ -1,7 +1,6 @@
 -- The ways to the nodes of a tree.
-use Rattle.std.proofs.Common.{◌≡◌, ◌∙◌, refl, sym, ap, subst, ℕ, zero, suc, ◌+◌, ◌-◌, ◌<◌, ◌≤◌, ◌⊎◌, inl, inr, List, [], ◌∷◌, ◌++◌, length, length-append, get_or, arith, slice_get, Some, None}
+use Rattle.std.proofs.Common.{◌≡◌, ◌∙◌, refl, sym, ap, ℕ, zero, suc, ◌+◌, ◌-◌, ◌<◌, ◌≤◌, ◌⊎◌, inl, inr, List, [], ◌∷◌, ◌++◌, length, length-append, arith, slice_get, Some, None}
 use Rattle.std.proofs.lemmas.List.{get_or_append_left, get_or_push}
-use Rattle.std.proofs.lemmas.Option.{slice_get_within}
 use Rattle.lama_num.specs.Rows.{row_at}
 use Rattle.sas_task.specs.declared.contents.Fact.{Fact}
 use Rattle.succ_gen.specs.declared.growing.Branch.{Branch}
@@ -74,16 +73,6 @@ way-push bs b n le =
 pub way-last : (bs : List Branch) (b : Branch) → EndsIn bs b → b.parent < length bs → row_at (ways bs) (length bs) ≡ row_at (ways bs) b.parent ++ b.fact ∷ []
 way-last bs b ends lt =
     way-branch bs (length bs - 1) (length bs) b ends.last (omega arith) (omega arith)
-
-pub ends_push : (bs : List Branch) (b : Branch) → EndsIn (bs ++ b ∷ []) b
-ends_push bs b = record { last = at (length (bs ++ b ∷ []) - 1) (omega (arith, length-append bs (b ∷ []))) }
-  where
-    last : (xs : List Branch) → slice_get (xs ++ b ∷ []) (length xs) ≡ Some b
-    last [] = refl
-    last (x ∷ xs) = last xs
-
-    at : (n : ℕ) → n ≡ length bs → slice_get (bs ++ b ∷ []) n ≡ Some b
-    at n is = ap (λ k. slice_get (bs ++ b ∷ []) k) is ∙ last bs
 
 -- a list that ends in a branch isn't empty
 pub ends_within : (bs : List Branch) (b : Branch) → EndsIn bs b → 0 < length bs

@@ -1,6 +1,5 @@
 -- How nodes stand for branches and for operators at nodes.
 use Rattle.std.specs.Prelude.{◌≡◌, ℕ, ◌+◌, ◌<◌, ◌≤◌, List, length, slice_get, Some}
-use Rattle.sas_task.specs.declared.contents.Fact.{Fact}
 use Rattle.succ_gen.specs.declared.growing.Branch.{Branch}
 use Rattle.succ_gen.specs.declared.growing.Home.{Home}
 use Rattle.succ_gen.specs.declared.nodes.Node.{Node}

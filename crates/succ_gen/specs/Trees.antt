@@ -2,7 +2,6 @@
 use Rattle.std.specs.Prelude.{◌≡◌, ℕ, ◌+◌, ◌<◌, ◌≤◌, List, length, IsTrue, filter, slice_index_or, slice_range}
 use Rattle.std.specs.List.{Contains, range_with_len}
 use Rattle.sas_task.specs.States.{holds, is_applicable}
-use Rattle.sas_task.specs.declared.contents.Fact.{Fact}
 use Rattle.sas_task.specs.declared.contents.Parts.{Parts}
 use Rattle.succ_gen.specs.declared.nodes.Node.{Node}
 
@@ -11,7 +10,7 @@ abbrev pub applicable : Parts → List ℕ → List ℕ
 applicable parts state = filter (is_applicable parts state) (range_with_len 0 (length parts.operators))
 
 -- what a tree keeps: its nodes and one more behind them, the operators that stand at them, and for how many nodes a walk has room
-pub record Kept : Type 0 where
+pub record Stored : Type 0 where
   pub nodes : List Node
   pub operators : List ℕ
   pub room : ℕ
@@ -64,7 +63,7 @@ pub record AreInside (nodes : List Node) (operators : ℕ) : Type 0 where
 
 -- The tree was made for the task: each operator stands just at nodes that a state opens where it is applicable. Callers hand this on,
 -- and need no more of it.
-pub record IsFor (tree : Kept) (parts : Parts) : Type 0 where
+pub record IsFor (tree : Stored) (parts : Parts) : Type 0 where
   pub shape : IsTree tree.nodes
   pub variables : HasVariables tree.nodes (length parts.variables)
   pub inside : AreInside tree.nodes (length tree.operators)

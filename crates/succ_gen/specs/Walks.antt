@@ -1,6 +1,6 @@
 -- What a walk through a tree comes to.
 use Rattle.std.specs.Prelude.{◌≡◌, ℕ, ◌+◌, ◌-◌, ◌<◌, ◌≤◌, List, length, filter, Option, Some, None}
-use Rattle.std.specs.List.{All, Contains, flat_map, range_with_len}
+use Rattle.std.specs.List.{All, Contains, range_with_len}
 use Rattle.sas_task.specs.States.{holds}
 use Rattle.succ_gen.specs.declared.nodes.Node.{Node}
 use Rattle.succ_gen.specs.Trees.{node_at, IsFound}

@@ -27,9 +27,9 @@ pub struct Tree {
 
 impl Model for Tree {
     ghost use Rattle.std.specs.Prelude.{vec_capacity};
-    ghost use Rattle.succ_gen.specs.Trees.{Kept};
+    ghost use Rattle.succ_gen.specs.Trees.{Stored};
 
-    ghost Value = { Kept };
+    ghost Value = { Stored };
 
     ghost view = { λ t. record { nodes = t.nodes; operators = t.operators; room = vec_capacity t.reached } };
 }

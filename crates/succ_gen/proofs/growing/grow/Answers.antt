@@ -1,4 +1,4 @@
-use Rattle.std.proofs.Common.{◌≡◌, ◌≤◌, length, arith}
+use Rattle.std.proofs.Common.{◌≡◌, arith}
 use Rattle.succ_gen.proofs.Levels.{level_sorted, level_last, order_sorted}
 use Rattle.succ_gen.proofs.growing.grow.Goals as goal
 

@@ -1,4 +1,3 @@
-use Rattle.std.proofs.Common.{◌<◌, length, arith}
 use Rattle.std.proofs.lemmas.Option.{slice_get-get_or}
 use Rattle.succ_gen.specs.Growing.{parent_of}
 use Rattle.succ_gen.proofs.Laying.{below_more, cut_at, cut_length}

@@ -1,6 +1,5 @@
-use Rattle.std.proofs.Common.{◌≡◌, ◌∙◌, ◌++◌, ◌+◌, ◌<◌, ◌≤◌, sym, ap, refl, append_assoc, length, arith}
-use Rattle.succ_gen.specs.Trees.{node_at, IsChild}
-use Rattle.succ_gen.specs.Walks.{opened}
+use Rattle.std.proofs.Common.{◌∙◌, ◌+◌, arith}
+use Rattle.succ_gen.specs.Trees.{IsChild}
 use Rattle.succ_gen.proofs.Reaching.{reached_more}
 use Rattle.succ_gen.proofs.walking.reach_children.Goals as goal
 

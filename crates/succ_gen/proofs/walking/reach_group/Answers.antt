@@ -1,5 +1,4 @@
-use Rattle.std.proofs.Common.{◌≡◌, ◌∙◌, ◌++◌, sym, ap, refl, append-nil, Some, None}
-use Rattle.succ_gen.specs.Trees.{node_at}
+use Rattle.std.proofs.Common.{◌∙◌, ◌++◌, sym, ap, refl, append-nil, Some, None}
 use Rattle.succ_gen.proofs.Reaching.{group_rises, group_opened}
 use Rattle.succ_gen.proofs.walking.reach_group.Goals as goal
 

@@ -1,4 +1,4 @@
-use Rattle.std.proofs.Common.{◌+◌, ◌-◌, ◌/◌, ◌<◌, ◌≤◌, ℕ, arith}
+use Rattle.std.proofs.Common.{◌+◌, ◌-◌, ◌/◌, ◌<◌, ℕ, arith}
 use Rattle.succ_gen.specs.Trees.{node_at}
 use Rattle.succ_gen.proofs.Reaching.{searched_left, searched_right}
 use Rattle.succ_gen.proofs.walking.search.Goals as goal
