@@ -1,0 +1,5 @@
+use Rattle.succ_gen.proofs.Laying.{AreNodesTo}
+use Rattle.succ_gen.proofs.nodes.nodes_of.Given as goal
+
+abbrev pub invariant-loop-number : goal.invariant-loop-number
+invariant-loop-number l = AreNodesTo l.branches l.homes l.number l.child l.home l.group l.nodes.items
