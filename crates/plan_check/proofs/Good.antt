@@ -5,16 +5,17 @@ use Rattle.std.proofs.lemmas.Bool.Decides.{nat_tests}
 use Rattle.lama_num.specs.Gives.{◌>>=◌}
 use Rattle.lama_num.specs.Lists.{both}
 use Rattle.sas_task.specs.declared.contents.Parts.{Parts}
-use Rattle.sas_task.specs.Runs.{start_of, cost_of}
+use Rattle.sas_task.specs.Runs.{IsPlan, start_of, is_goal, cost_of}
 use Rattle.sas_task.specs.Costs.{is_unit_cost}
 use Rattle.plan_text.specs.PlanLines.{plan_lines_of}
 use Rattle.plan_text.specs.declared.reading.PlanLines.{PlanLines}
 use Rattle.plan_text.specs.declared.faults.PlanTextFault.{PlanTextFault}
-use Rattle.plan_check.specs.Choices.{choices}
+use Rattle.plan_check.specs.Choices.{choices, IsChoice, IsBefore}
 use Rattle.plan_check.specs.GoodPlans.{IsGoodPlan}
 use Rattle.plan_check.specs.Verdicts.{unless, only_if, or_fault, cheaper, compared, reaches_goal, is_plan_at, first_fault, first_plan, least_cost, last_state, as_text, plan_in, plan_of}
 use Rattle.plan_check.specs.declared.verdicts.PlanFault.{PlanFault}
 use Rattle.plan_check.specs.declared.verdicts.PlanFault.TheVariants.{NoGoal, WrongKind, WrongCost, NotCheaper, Text}
+use Rattle.plan_check.proofs.Earliest.{choice_taken, earliest}
 use Rattle.plan_check.proofs.Chosen.{AreTaken, choices-taken, find_each, taken_choice, taken_leads, taken_long, taken_within}
 
 abbrev Gives : {A : Type 0} → Result A PlanFault → A → Type 0
@@ -98,6 +99,19 @@ plan_in-long parts bound lines ops cost is =
     let found = find_each (AreTaken parts (start_of parts) lines.names) (is_plan_at parts lines.cost) (choices parts lines.names) ops (choices-taken parts lines.names) told.agree.plan_is in
     taken_long parts (start_of parts) lines.names ops found.0
 
+-- no other choice that is a plan of the cost comes before the first
+not_earlier : (parts : Parts) (names : List (List ℕ)) (cost : ℕ) (ops others : List ℕ) → first_plan parts names cost ≡ Some ops → IsChoice parts names others → IsPlan parts others → cost_of parts others ≡ cost → IsBefore others ops → ⊥
+not_earlier parts names cost ops others is choice plan same before =
+    let taken = choice_taken parts names others choice in
+    let some : Some (last_state parts others) ≡ Some plan.last = sym (taken_leads parts (start_of parts) names others taken) ∙ plan.leads in
+    let last : last_state parts others ≡ plan.last = cc in
+    let goal : reaches_goal parts others ≡ true = ap (is_goal parts) last ∙ plan.goal in
+    let own : nat_eq (cost_of parts others) cost ≡ true = grind (arith, nat_tests, same) in
+    let first = earliest parts names (start_of parts) (is_plan_at parts cost) others taken (rw (goal, own) refl) in
+    let found : Some first.ops ≡ Some ops = sym first.is ∙ is in
+    let own_ops : first.ops ≡ ops = cc in
+    first.least (subst (IsBefore others) (sym own_ops) before)
+
 found_plan : (parts : Parts) (bytes : List ℕ) (bound : Option ℕ) (lines : PlanLines) (ops : List ℕ) (cost : ℕ) → plan_lines_of bytes ≡ Ok lines → IsPlanIn parts bound lines ops cost → IsGoodPlan parts bytes bound ops cost
 found_plan parts bytes bound lines ops cost text is =
     let found = find_each (AreTaken parts (start_of parts) lines.names) (is_plan_at parts lines.cost) (choices parts lines.names) ops (choices-taken parts lines.names) is.agree.plan_is in
@@ -115,6 +129,7 @@ found_plan parts bytes bound lines ops cost text is =
       told = is.told;
       cost_is = sym is.told ∙ sym real;
       cheaper = subst (λ n. IfSome bound (λ limit. n < limit)) is.told is.agree.cheaper;
+      first = λ others own_choice plan same. not_earlier parts lines.names lines.cost ops others is.agree.plan_is own_choice plan (same ∙ sym is.told);
     }
 
 as_text_ok : (read : Result PlanLines PlanTextFault) (lines : PlanLines) → Gives (as_text read) lines → read ≡ Ok lines

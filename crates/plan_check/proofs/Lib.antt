@@ -1,4 +1,5 @@
 pub mod Chosen
+pub mod Earliest
 pub mod Ends
 pub mod Faults
 pub mod Finding

@@ -1,5 +1,5 @@
 -- Choices of operators for the names of a plan file.
-use Rattle.std.specs.Prelude.{◌≡◌, ℕ, List, [], ◌∷◌, length, Bool, ◌&&◌, map, filter, slice_get, Some, unwrap_or}
+use Rattle.std.specs.Prelude.{◌≡◌, ℕ, ◌<◌, ◌⊎◌, List, [], ◌∷◌, length, Bool, ◌&&◌, map, filter, slice_get, Some, unwrap_or}
 use Rattle.std.specs.List.{enumerate_from, flat_map}
 use Rattle.std.specs.Str.{bytes_eq}
 use Rattle.sas_task.specs.declared.contents.Operator.{Operator}
@@ -30,6 +30,12 @@ choices_from parts state (name ∷ names) = flat_map (λ op. map (λ ops. op ∷
 
 abbrev pub choices : Parts → List (List ℕ) → List (List ℕ)
 choices parts names = choices_from parts (start_of parts) names
+
+-- the order of lists of numbers that are equally long
+abbrev pub IsBefore : List ℕ → List ℕ → Type 0
+IsBefore [] others = ⊥
+IsBefore (op ∷ ops) [] = ⊥
+IsBefore (op ∷ ops) (other ∷ others) = (op < other) ⊎ ((op ≡ other) × IsBefore ops others)
 
 -- a choice as a relation: as many operators as names, each with its name, and each applicable after those before it
 pub record IsChoice (parts : Parts) (names : List (List ℕ)) (ops : List ℕ) : Type 0 where
