@@ -88,7 +88,13 @@ fn steps_and_costs_that_fail(rt: HostRuntime) -> Result<(), Fail> {
     let unknown = "(go01)\n(fly)\n; cost = 1 (general cost)\n";
     assert!(rt; has_fault(alloc, unit, PlanFault::WrongKind)?);
     assert!(rt; has_fault(alloc, low, PlanFault::WrongCost { real: 2 })?);
-    assert!(rt; has_fault(alloc, "(go01)\n; cost = 1 (general cost)\n", PlanFault::NoGoal)?);
+    assert!(rt;
+        has_fault(
+            alloc,
+            "(go01)\n; cost = 1 (general cost)\n",
+            PlanFault::NoGoal
+        )?
+    );
     assert!(rt; has_fault(alloc, "(go01)\n; cost = 9 (unit cost)\n", PlanFault::NoGoal)?);
     assert!(rt; has_fault(alloc, early, PlanFault::NotApplicable { step: 1 })?);
     assert!(rt; has_fault(alloc, unknown, PlanFault::NoOperator { step: 2 })?);
