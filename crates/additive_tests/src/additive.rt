@@ -2,10 +2,9 @@
 // is dead.
 use crate::answers::{NEVER, answers, answers_without, sizes};
 use relaxation_tasks::moves;
-use sas_reader::read;
 use sas_task::{CostKind, check};
 use std::test::Fail;
-use test_tasks::{door, fact, rivals};
+use test_tasks::{door, fact, rivals, task};
 
 #[test]
 fn moves_that_cost(rt: HostRuntime) -> Result<(), Fail> {
@@ -35,9 +34,7 @@ fn costs_that_reach_the_largest(rt: HostRuntime) -> Result<(), Fail> {
 
 #[test]
 fn a_door_that_must_be_shut_again(rt: HostRuntime) -> Result<(), Fail> {
-    let Ok(task) = read(rt.alloc(), door().as_bytes()) else {
-        return Err(Fail::from("refused"));
-    };
+    let task = task(rt.alloc(), door())?;
     let open = answers(rt.alloc(), &task, CostKind::Normal, &[1, 0, 1])?;
     assert!(rt; open.as_slice() == [1, 0, 0, 1, 0, 0, 1, 0].as_slice());
     let shut = answers(rt.alloc(), &task, CostKind::Normal, &[0, 0, 0])?;
@@ -48,9 +45,7 @@ fn a_door_that_must_be_shut_again(rt: HostRuntime) -> Result<(), Fail> {
 
 #[test]
 fn operators_without_conditions(rt: HostRuntime) -> Result<(), Fail> {
-    let Ok(task) = read(rt.alloc(), rivals().as_bytes()) else {
-        return Err(Fail::from("refused"));
-    };
+    let task = task(rt.alloc(), rivals())?;
     let without = [fact(1, 1), fact(0, 0)];
     let all = answers_without(rt.alloc(), &task, &[0, 0], &without)?;
     let worked = [NEVER, 1, 0, NEVER, NEVER, 1, 0, 1, 0, 1, 2, 0];

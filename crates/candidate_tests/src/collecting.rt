@@ -13,10 +13,9 @@ use lama_host::{ChildEnd, Failed, Host, Limits};
 use lama_num::{NameBuf, NoMemory, Seq};
 use plan_check::PlanFault;
 use plan_text::PlanTextFault;
-use sas_reader::read;
 use std::alloc::{AllocError, Global};
 use std::test::Fail as Ended;
-use test_tasks::three_places;
+use test_tasks::{task, three_places};
 
 const TWO_STEPS: &str = "(go01)\n(go12)\n; cost = 2 (general cost)\n";
 
@@ -86,9 +85,7 @@ fn comes(
     let Some(base) = NameBuf::new("sas_plan") else {
         return Err(Ended::from("refused"));
     };
-    let Ok(task) = read(alloc, three_places().as_bytes()) else {
-        return Err(Ended::from("refused"));
-    };
+    let task = task(alloc, three_places())?;
     let mut host = host(alloc, writes, status)?;
     let mut core = begun(alloc)?;
     let mut plans = Vec::new(alloc);

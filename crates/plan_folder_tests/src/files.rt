@@ -6,22 +6,14 @@ ghost use Rattle.lama_num.specs.Names.{IsPlanNumber};
 use host_mem::{MemHost, named};
 use lama_num::{NameBuf, Seq};
 use plan_manager::{clear, clear_child, keep, seal};
-use sas_reader::read;
-use sas_task::{Kept, Task};
+use sas_task::Kept;
 use std::alloc::{AllocError, Global};
 use std::test::Fail as Ended;
-use test_tasks::three_places;
+use test_tasks::{task, three_places};
 
 const TWO_STEPS: &str = "(go01)\n(go12)\n; cost = 2 (general cost)\n";
 
 const JUMP: &str = "(jump)\n; cost = 5 (general cost)\n";
-
-fn task(alloc: Global) -> Result<Task, Ended> {
-    match read(alloc, three_places().as_bytes()) {
-        Ok(task) => Ok(task),
-        Err(_) => Err(Ended::from("refused")),
-    }
-}
 
 /// What a run keeps for these steps; of their cost it tells nothing.
 fn plan(alloc: Global, ops: &[u32]) -> Result<Kept, AllocError>
@@ -95,7 +87,7 @@ fn is_kept(alloc: Global, many: bool, number: u32, name: &str) -> Result<bool, E
     requires number { IsPlanNumber number }
     requires single { many ≡ false → number ≡ 1 }
 {
-    let task = task(alloc)?;
+    let task = task(alloc, three_places())?;
     let mut host = folder(alloc, "sas_plan.part", "junk")?;
     keep(
         &mut host,
@@ -119,7 +111,7 @@ fn a_plan_is_kept(rt: HostRuntime) -> Result<(), Ended> {
 
 /// Whether a folder with a second plan's file, and others, holds just the plans after it was sealed.
 fn is_sealed(alloc: Global, second: &str) -> Result<bool, Ended> {
-    let task = task(alloc)?;
+    let task = task(alloc, three_places())?;
     let kept = [plan(alloc, &[2])?, plan(alloc, &[0, 1])?];
     let names = "sas_plan sas_plan.2 sas_plan.3 sas_plan.9998 sas_plan.part sas_plan.07";
     let mut host = folder(alloc, names, second)?;

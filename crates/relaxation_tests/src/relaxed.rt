@@ -1,17 +1,16 @@
 // Unary operators that were worked by hand.
 use relaxed_task::{Relaxed, Unary};
-use sas_reader::read;
 use sas_task::{CostKind, Fact};
 use std::alloc::{AllocError, Global};
 use std::process::Abort;
 use std::test::Fail;
-use test_tasks::{fact, free_moves, two_conditions};
+use test_tasks::{fact, free_moves, task, two_conditions};
 
 // In place of the operator of a rule.
 const RULE: u32 = 99;
 
 fn relaxed(alloc: Global, text: &str, kind: CostKind) -> Result<Relaxed, Fail> {
-    let task = read(alloc, text.as_bytes())?;
+    let task = task(alloc, text)?;
     Ok(Relaxed::new(alloc, &task, kind)?)
 }
 

@@ -1,10 +1,9 @@
 // Relaxed plans that were worked by hand: the estimate, the plan's operators, and the preferred ones.
 use crate::answers::{AND, NEVER, answers};
 use relaxation_tasks::moves;
-use sas_reader::read;
 use sas_task::check;
 use std::test::Fail;
-use test_tasks::{door, rivals};
+use test_tasks::{door, rivals, task};
 
 #[test]
 fn one_of_two_equal_supporters(rt: HostRuntime) -> Result<(), Fail> {
@@ -32,9 +31,7 @@ fn a_plan_that_costs_more_than_the_largest_estimate(rt: HostRuntime) -> Result<(
 
 #[test]
 fn goals_that_destroy_each_other(rt: HostRuntime) -> Result<(), Fail> {
-    let Ok(task) = read(rt.alloc(), rivals().as_bytes()) else {
-        return Err(Fail::from("refused"));
-    };
+    let task = task(rt.alloc(), rivals())?;
     let all = answers(&rt, &task, &[0, 0])?;
     assert!(rt; all.as_slice() == [2, 0, 1, AND, 0, 1].as_slice());
     Ok(())
@@ -42,9 +39,7 @@ fn goals_that_destroy_each_other(rt: HostRuntime) -> Result<(), Fail> {
 
 #[test]
 fn a_door_that_must_be_shut_again(rt: HostRuntime) -> Result<(), Fail> {
-    let Ok(task) = read(rt.alloc(), door().as_bytes()) else {
-        return Err(Fail::from("refused"));
-    };
+    let task = task(rt.alloc(), door())?;
     let open = answers(&rt, &task, &[1, 0, 1])?;
     assert!(rt; open.as_slice() == [1, 0, AND, 0].as_slice());
     let shut = answers(&rt, &task, &[0, 0, 0])?;

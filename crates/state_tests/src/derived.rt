@@ -3,13 +3,12 @@ ghost use Rattle.std.specs.Prelude.{◌≡◌, ◌<◌, ◌↔◌, IsTrue, lengt
 
 use axiom_eval::{Axioms, all_hold};
 use lama_num::NoMemory;
-use sas_reader::read;
 use sas_task::{Fact, Task};
 use state_step::Stepper;
 use std::alloc::Global;
 use std::process::Abort;
 use std::test::Fail;
-use test_tasks::two_layers;
+use test_tasks::{task, two_layers};
 
 fn has_three_variables(task: &Task) -> bool
     ensures { IsTrue result ↔ (length task.now.variables ≡ 3) }
@@ -56,9 +55,7 @@ fn settled(
 #[test]
 fn derived_variables_follow(rt: HostRuntime) -> Result<(), Fail> {
     let alloc = rt.alloc();
-    let Ok(task) = read(alloc, two_layers().as_bytes()) else {
-        return Err(Fail::from("refused"));
-    };
+    let task = task(alloc, two_layers())?;
     let (start, next) = first_states(&rt, alloc, &task)?;
     assert_eq!(rt; start, [0, 0, 1]);
     assert_eq!(rt; next, [1, 1, 0]);

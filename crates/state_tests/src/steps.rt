@@ -2,13 +2,12 @@
 ghost use Rattle.std.specs.Prelude.{◌≡◌, ◌↔◌, ◌<◌, ◌^◌, length, IsTrue, EachIndex, slice_index};
 
 use lama_num::NoMemory;
-use sas_reader::read;
 use sas_task::Task;
 use state_step::{RunEnd, Stepper};
 use std::alloc::Global;
 use std::process::Abort;
 use std::test::Fail;
-use test_tasks::three_places;
+use test_tasks::{task, three_places};
 
 // The state after an operator that can be applied.
 fn after(alloc: Global, task: &Task, state: u32, op: u32) -> Result<Option<u32>, NoMemory>
@@ -83,9 +82,7 @@ fn expect_first(rt: &impl Abort, alloc: Global, task: &Task) -> Result<(), NoMem
 
 #[test]
 fn steps_between_three_places(rt: HostRuntime) -> Result<(), Fail> {
-    let Ok(task) = read(rt.alloc(), three_places().as_bytes()) else {
-        return Err(Fail::from("refused"));
-    };
+    let task = task(rt.alloc(), three_places())?;
     expect_first(&rt, rt.alloc(), &task)?;
     let steps = [(0, 0, Some(1)), (0, 1, None), (1, 1, Some(2))];
     for (state, op, next) in steps {
@@ -96,9 +93,7 @@ fn steps_between_three_places(rt: HostRuntime) -> Result<(), Fail> {
 
 #[test]
 fn runs_between_three_places(rt: HostRuntime) -> Result<(), Fail> {
-    let Ok(task) = read(rt.alloc(), three_places().as_bytes()) else {
-        return Err(Fail::from("refused"));
-    };
+    let task = task(rt.alloc(), three_places())?;
     let runs: [(&[u32], RunEnd); 4] = [
         (&[2], RunEnd::Goal { cost: 5 }),
         (&[0, 1], RunEnd::Goal { cost: 2 }),

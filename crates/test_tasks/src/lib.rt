@@ -2,9 +2,11 @@
 #![tactic(auto)]
 
 mod parts;
+mod reading;
 mod texts;
 
 pub use parts::{effect, fact, facts, giving, operator, rule, variable};
+pub use reading::task;
 pub use texts::{
     at_the_goal, cut_short, door, free_moves, no_operator, one_name, rivals, same_names, swap,
     three_places, two_conditions, two_layers, wide_derived,
