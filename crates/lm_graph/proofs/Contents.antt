@@ -1,19 +1,22 @@
 -- What a graph holds after a call.
-use Rattle.std.proofs.Common.{◌≡◌, ◌≢◌, ◌⊎◌, inl, inr, ◌∙◌, sym, ap, refl, subst, ℕ, zero, suc, ◌+◌, ◌<◌, ◌≤◌, List, [], ◌∷◌, ◌++◌, length, map, Bool, true, false, ◌||◌, ◌&&◌, Option, Some, None, slice_get, slice_set, slice_index_or, get_or-set_same, get_or-set_other, arith, length-append, IsTrue}
+use Rattle.std.proofs.Common.{◌≡◌, ◌≢◌, ◌⊎◌, inl, inr, ◌∙◌, sym, ap, refl, subst, ℕ, zero, suc, ◌<◌, List, [], ◌∷◌, ◌++◌, length, Bool, true, false, ◌||◌, ◌&&◌, Option, Some, None, slice_get, slice_set, get_or-set_same, get_or-set_other, arith, length-append, IsTrue}
 use Rattle.std.specs.List.{list_all}
 use Rattle.std.proofs.lemmas.List.{length-set, length-map, map-append}
 use Rattle.std.proofs.lemmas.List.Folds.{list_all-append}
 use Rattle.std.proofs.lemmas.Bool.{cases_eq}
-use Rattle.std.proofs.lemmas.Option.{same_Some, none-some, slice_get_within}
+use Rattle.std.proofs.lemmas.Option.{same_Some, none-some}
 use Rattle.sas_task.specs.declared.contents.Fact.{Fact}
 use Rattle.lm_graph.specs.declared.orders.Order.{Order}
 use Rattle.lm_graph.specs.declared.orders.Edge.{Edge}
 use Rattle.lm_graph.specs.declared.nodes.Node.{Node}
-use Rattle.lm_graph.specs.Nodes.{is_set, sets_of, IsAbsent, AreDistinct, with_goal}
+use Rattle.lm_graph.specs.Nodes.{is_set, sets_of, IsAbsent, with_goal}
 use Rattle.lm_graph.specs.Orders.{stronger}
-use Rattle.lm_graph.specs.Rows.{kind_in, Raises}
-use Rattle.lm_graph.specs.Graphs.{Content, content, row_of, kind_of, RaisesAt, IsPair, IsGraph, AddsNew, FindsKnown, PutsOrder}
-use Rattle.lm_graph.proofs.Lists.{push_get, get_last, set_same}
+use Rattle.lm_graph.specs.Rows.{kind_in}
+use Rattle.lm_graph.specs.Graphs.{content, row_of, kind_of, RaisesAt, IsPair, IsGraph, AddsNew, FindsKnown, PutsOrder}
+use Rattle.lm_graph.specs.Rows.{IsAscending}
+use Rattle.lm_graph.specs.Marks.{AreWithin}
+use Rattle.lm_graph.proofs.Lists.{push_get, set_same}
+use Rattle.lm_graph.proofs.Strengths.{kind_at_place}
 
 -- rows
 
@@ -26,7 +29,7 @@ row_of-new (row ∷ rows) (suc j) = row_of-new rows j
 pub row_of-set_same : (rows : List (List Edge)) (j : ℕ) (row : List Edge) → j < length rows → row_of (slice_set rows j row) j ≡ row
 row_of-set_same rows j row lt = get_or-set_same rows j row [] lt
 
-row_of-set_other : (rows : List (List Edge)) (i j : ℕ) (row : List Edge) → j ≢ i → row_of (slice_set rows i row) j ≡ row_of rows j
+pub row_of-set_other : (rows : List (List Edge)) (i j : ℕ) (row : List Edge) → j ≢ i → row_of (slice_set rows i row) j ≡ row_of rows j
 row_of-set_other rows i j row ne = get_or-set_other rows i j row [] ne
 
 -- the graph without a node
@@ -34,7 +37,7 @@ row_of-set_other rows i j row ne = get_or-set_other rows i j row [] ne
 pub empty_graph : IsGraph (content [] [])
 empty_graph = record {
   few = omega arith;
-  sets = tt;
+  sets = refl;
   distinct = record { each = λ i j facts a b. absurd (none-some facts a) };
   long = refl;
   between = λ i j kind at. absurd (none-some kind at);
@@ -108,14 +111,12 @@ module _ (nodes : List Node) (rows : List (List Edge)) where
         distinct = record { each = λ i j fs a b. apart i j fs (push_get (sets_of nodes) node.facts i fs (ap (λ (s : List (List Fact)). slice_get s i) (sym sets) ∙ a)) (push_get (sets_of nodes) node.facts j fs (ap (λ (s : List (List Fact)). slice_get s j) (sym sets) ∙ b)) };
         long = let l : length (rows ++ [] ∷ []) ≡ length (nodes ++ node ∷ []) = omega (arith, long, length-append rows ([] ∷ []), graph.long) in l;
         between = λ i j kind at.
-          let old = graph.between i j kind (ap (λ (row : List Edge). kind_in row i) (sym (row_of-new rows j)) ∙ at) in
-          record { first = omega (arith, long, old.first); second = omega (arith, long, old.second); different = old.different };
+            let old = graph.between i j kind (ap (λ (row : List Edge). kind_in row i) (sym (row_of-new rows j)) ∙ at) in
+            record { first = omega (arith, long, old.first); second = omega (arith, long, old.second); different = old.different };
       }
     where
-      and_true : (a b : Bool) → IsTrue a → IsTrue b → IsTrue (a && (b && true))
-      and_true true true x y = tt
-      and_true true false x y = y
-      and_true false b x y = x
+      and_true : (a b : Bool) → a ≡ true → b ≡ true → (a && (b && true)) ≡ true
+      and_true a b x y = rw (x, y) refl
 
       all_sets : sets_of (nodes ++ node ∷ []) ≡ sets_of nodes ++ node.facts ∷ [] → IsTrue (list_all is_set (sets_of (nodes ++ node ∷ [])))
       all_sets sets = rw (sets, list_all-append is_set (sets_of nodes) (node.facts ∷ [])) (and_true (list_all is_set (sets_of nodes)) (is_set node.facts) graph.sets set)
@@ -171,3 +172,15 @@ module _ (nodes : List Node) (rows : List (List Edge)) where
         pairs i j k at (inl a) (inl b) = rw (a, b) pair
         pairs i j k at (inl a) (inr b) = graph.between i j k (sym (others i j (λ x y. b y)) ∙ at)
         pairs i j k at (inr a) b = graph.between i j k (sym (others i j (λ x y. a x)) ∙ at)
+
+-- orders come from nodes
+
+pub edge_kind : (nodes : List Node) (rows : List (List Edge)) (node place : ℕ) (row : List Edge) (edge : Edge) → IsGraph (content nodes rows) → row ≡ row_of rows node → IsAscending row → slice_get row place ≡ Some edge →
+    (edge.node < length nodes) × (kind_of (content nodes rows) edge.node node ≡ Some edge.kind)
+edge_kind nodes rows node place row edge graph is ascending at =
+    let kind = ap (λ (r : List Edge). kind_in r edge.node) (sym is) ∙ kind_at_place row place edge ascending at in
+    let pair = graph.between edge.node node edge.kind kind in
+    (pair.first, kind)
+
+pub rows_within : (nodes : List Node) (rows : List (List Edge)) → IsGraph (content nodes rows) → AreWithin rows
+rows_within nodes rows graph = record { each = λ i j kind at. let pair = graph.between i j kind at in omega (arith, pair.first, graph.long) }

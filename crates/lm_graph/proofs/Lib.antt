@@ -3,5 +3,7 @@ pub mod Edges
 pub mod Lists
 pub mod Looking
 pub mod Marking
+pub mod Numbering
 pub mod Places
 pub mod Strengths
+pub mod Turning

@@ -13,12 +13,15 @@ use Rattle.lm_graph.specs.declared.nodes.Node.{Node}
 use Rattle.lm_graph.specs.Keys.{AreKeys}
 use Rattle.lm_graph.specs.Nodes.{sets_of, IsAbsent}
 
-facts_equal : (a b : Fact) → same_fact a b ≡ true → a ≡ b
+pub facts_equal : (a b : Fact) → same_fact a b ≡ true → a ≡ b
 facts_equal a b h =
     let both = and_parts _ _ h in
     let var = eqb-true a.var b.var both.0 in
     let val = eqb-true a.val b.val both.1 in
     λ i. record { var = var i; val = val i }
+
+pub same_itself : (a : Fact) → same_fact a a ≡ true
+same_itself a = and_from _ _ (eq-eqb a.var a.var refl) (eq-eqb a.val a.val refl)
 
 decides : (a b : Fact) → (same_fact a b ≡ true → a ≡ b) × (a ≡ b → same_fact a b ≡ true)
 decides a b = (facts_equal a b, λ e. and_from _ _ (eq-eqb a.var b.var (ap (λ (f : Fact). f.var) e)) (eq-eqb a.val b.val (ap (λ (f : Fact). f.val) e)))
@@ -66,11 +69,11 @@ absent keys nodes facts are h = record { each = λ place e. none_has keys facts 
 -- and what isn't among the nodes isn't among the keys
 no_key : (keys : List (Vec Fact Global)) (facts : List Fact) → ((place : ℕ) → slice_get (items_of keys) place ≢ Some facts) → list_any (has_facts facts) keys ≡ false
 no_key [] facts none = refl
-no_key (key ∷ keys) facts none = by (has_facts facts key) refl
+no_key (key ∷ keys) facts none = by (has_facts facts key) refl (no_key keys facts (λ place e. none (suc place) e))
   where
-    by : (b : Bool) → has_facts facts key ≡ b → (b || list_any (has_facts facts) keys) ≡ false
-    by true is = absurd (none 0 (ap (λ (fs : List Fact). Some fs) (sym ((same_facts facts key.items).0 is))))
-    by false is = no_key keys facts (λ place e. none (suc place) e)
+    by : (b : Bool) → has_facts facts key ≡ b → list_any (has_facts facts) keys ≡ false → (b || list_any (has_facts facts) keys) ≡ false
+    by true is rest = absurd (none 0 (ap (λ (fs : List Fact). Some fs) (sym ((same_facts facts key.items).0 is))))
+    by false is rest = rest
 
 pub key_added : (keys new : List (Vec Fact Global)) (nodes : List Node) (node : Node) (key : Vec Fact Global) → AreKeys keys nodes → IsAbsent nodes node.facts → key.items ≡ node.facts →
     new ≡ (if list_any (has_facts key.items) keys then keys else keys ++ key ∷ []) → AreKeys new (nodes ++ node ∷ [])

@@ -1,13 +1,13 @@
 -- Marked numbers, and a flood of marks over rows.
-use Rattle.std.proofs.Common.{◌≡◌, ◌∙◌, sym, ap, refl, subst, ℕ, zero, suc, ◌+◌, ◌<◌, ◌≤◌, List, [], ◌∷◌, ◌++◌, length, take, get_or, Bool, true, false, ◌||◌, ◌&&◌, nat_eq, nat_le, cond, Option, Some, None, slice_get, slice_set, inl, inr, arith, length-append, append_assoc, count_by, unwrap_or, replicate}
-use Rattle.std.proofs.lemmas.List.{append-nil, length-set, length-replicate, get_or_default}
+use Rattle.std.proofs.Common.{◌≡◌, ◌∙◌, sym, ap, refl, subst, ℕ, zero, suc, ◌+◌, ◌<◌, ◌≤◌, List, [], ◌∷◌, ◌++◌, length, take, get_or, Bool, true, false, ◌||◌, ◌&&◌, nat_eq, cond, Option, Some, None, slice_get, slice_set, inl, inr, arith, length-append, append_assoc, count_by, unwrap_or, replicate}
+use Rattle.std.proofs.lemmas.List.{append-nil, length-set, length-replicate}
 use Rattle.std.proofs.lemmas.List.Folds.{list_any_more}
 use Rattle.std.proofs.lemmas.List.Sums.{sum_by-set}
-use Rattle.std.proofs.lemmas.Bool.{cases_eq, eq-eqb, ne_eqb, or_cases, or_left, or_right, le-leb, lt-leb, both_ways, cases_lt}
+use Rattle.std.proofs.lemmas.Bool.{cases_eq, eq-eqb, ne_eqb, or_cases, or_left, or_right, both_ways, cases_lt}
 use Rattle.std.proofs.lemmas.Option.{same_Some, none-some, slice_get_within, slice_get-get_or}
 use Rattle.lm_graph.specs.declared.orders.Order.{Order}
 use Rattle.lm_graph.specs.declared.orders.Edge.{Edge}
-use Rattle.lm_graph.specs.Orders.{strength_of, is_strong}
+use Rattle.lm_graph.specs.Orders.{is_strong}
 use Rattle.lm_graph.specs.Rows.{kind_in, past_end, IsAscending}
 use Rattle.lm_graph.specs.Graphs.{row_of}
 use Rattle.lm_graph.specs.Paths.{Path, one, more}
@@ -109,12 +109,8 @@ marks_same seen s1 queue q1 t v a is = record {
   goes_on = a.goes_on;
 }
 
--- an edge is at the place that it was read at
-edge_at : (row : List Edge) (k : ℕ) (edge : Edge) → edge ≡ get_or row k edge → k < length row → edge ≡ get_or row k past_end
-edge_at row k edge is lt = is ∙ get_or_default row k edge past_end lt
-
 -- one more edge of a row, which is strong enough or not
-pub row_yes : (seen s1 s2 : List Bool) (queue q1 q2 : List ℕ) (row : List Edge) (k : ℕ) (edge : Edge) (weakest : Order) → k < length row → edge ≡ get_or row k past_end → strength_of weakest ≤ strength_of edge.kind →
+pub row_yes : (seen s1 s2 : List Bool) (queue q1 q2 : List ℕ) (row : List Edge) (k : ℕ) (edge : Edge) (weakest : Order) → k < length row → edge ≡ get_or row k past_end → is_strong weakest (Some edge.kind) ≡ true →
     Marks seen queue (is_taken (take k row) weakest) s1 q1 → Marks s1 q1 (λ i. nat_eq edge.node i) s2 q2 → Marks seen queue (is_taken (take (k + 1) row) weakest) s2 q2
 row_yes seen s1 s2 queue q1 q2 row k edge weakest lt is enough a b =
     marks_more seen s1 s2 queue q1 q2 (is_taken (take k row) weakest) (λ i. nat_eq edge.node i) (is_taken (take (k + 1) row) weakest) a b taken
@@ -124,9 +120,9 @@ row_yes seen s1 s2 queue q1 q2 row k edge weakest lt is enough a b =
     and_true false = refl
 
     taken : (i : ℕ) → is_taken (take (k + 1) row) weakest i ≡ (is_taken (take k row) weakest i || nat_eq edge.node i)
-    taken i = list_any_more (takes weakest i) row k past_end lt ∙ rw (← is) (ap (λ b. is_taken (take k row) weakest i || b) (rw (le-leb _ _ enough) (and_true (nat_eq edge.node i))))
+    taken i = list_any_more (takes weakest i) row k past_end lt ∙ rw (← is) (ap (λ b. is_taken (take k row) weakest i || b) (rw enough (and_true (nat_eq edge.node i))))
 
-pub row_no : (seen s1 : List Bool) (queue q1 : List ℕ) (row : List Edge) (k : ℕ) (edge : Edge) (weakest : Order) → k < length row → edge ≡ get_or row k past_end → strength_of edge.kind < strength_of weakest →
+pub row_no : (seen s1 : List Bool) (queue q1 : List ℕ) (row : List Edge) (k : ℕ) (edge : Edge) (weakest : Order) → k < length row → edge ≡ get_or row k past_end → is_strong weakest (Some edge.kind) ≡ false →
     Marks seen queue (is_taken (take k row) weakest) s1 q1 → Marks seen queue (is_taken (take (k + 1) row) weakest) s1 q1
 row_no seen s1 queue q1 row k edge weakest lt is weak a = marks_same seen s1 queue q1 (is_taken (take k row) weakest) (is_taken (take (k + 1) row) weakest) a taken
   where
@@ -135,7 +131,7 @@ row_no seen s1 queue q1 row k edge weakest lt is weak a = marks_same seen s1 que
     and_false false = refl
 
     taken : (i : ℕ) → is_taken (take (k + 1) row) weakest i ≡ is_taken (take k row) weakest i
-    taken i = list_any_more (takes weakest i) row k past_end lt ∙ rw (← is) (ap (λ b. is_taken (take k row) weakest i || b) (rw (lt-leb _ _ weak) (and_false (nat_eq edge.node i))) ∙ sym (or_false (is_taken (take k row) weakest i)))
+    taken i = list_any_more (takes weakest i) row k past_end lt ∙ rw (← is) (ap (λ b. is_taken (take k row) weakest i || b) (rw weak (and_false (nat_eq edge.node i))) ∙ sym (or_false (is_taken (take k row) weakest i)))
 
 -- nothing is marked at the beginning
 

@@ -1,5 +1,5 @@
 -- What a search among ascending edges finds, and what an edit at that place does.
-use Rattle.std.proofs.Common.{◌≡◌, ℕ, ◌+◌, ◌-◌, ◌<◌, ◌≤◌, List, length, get_or, set, Some, None, Result, Ok, Err, IfOk, IfErr, sym, ap, subst, arith}
+use Rattle.std.proofs.Common.{◌≡◌, ℕ, ◌+◌, ◌-◌, ◌<◌, ◌≤◌, List, length, get_or, set, Some, None, Result, Ok, Err, IfOk, IfErr, refl, sym, ap, subst, arith}
 use Rattle.std.specs.List.{insert}
 use Rattle.std.specs.List.Sorted.{IsSearchInRange, IsBinarySearchResult, IsNonDecreasingBy}
 use Rattle.std.specs.Ordering.{nat_cmp, ordering_index}
@@ -59,12 +59,14 @@ module _ (row : List Edge) (node place : ℕ) (gap : IsGapFor row node place) wh
 
   -- each new edge is an old one below the gap, the one in it, or an old one moved up by one
   pub ascending_insert : (kind : Order) → IsAscending row → IsAscending (insert row place (edge_of node kind))
-  ascending_insert kind ascending = record { each = λ i j lt within.
-      let edge = edge_of node kind in
-      let new = insert row place edge in
-      let number = λ (e : Edge). e.node in
-      let long = length-insert row place edge gap.within in
-      let lower : (i : ℕ) → i < place → node_at new i ≡ node_at row i = λ i below. ap number (get_or-insert_below row place edge past_end i below gap.within) in
-      let here : (i : ℕ) → i ≡ place → node_at new i ≡ node = λ i same. rw same (ap number (get_or-insert_at row place edge past_end gap.within)) in
-      let upper : (i : ℕ) → place < i → node_at new i ≡ node_at row (i - 1) = λ i above. subst (λ q. node_at new q ≡ node_at row (i - 1)) {x = i - 1 + 1} (omega arith) (ap number (get_or-insert_above row place edge past_end (i - 1) (omega arith) gap.within)) in
-      grind (arith, lower i, here i, upper i, lower j, here j, upper j, ascending.each i j, ascending.each i (j - 1), ascending.each (i - 1) (j - 1), gap.below i, gap.above (j - 1)) }
+  ascending_insert kind ascending = record {
+    each = λ i j lt within.
+        let edge = edge_of node kind in
+        let new = insert row place edge in
+        let number = λ (e : Edge). e.node in
+        let long = length-insert row place edge gap.within in
+        let lower : (i : ℕ) → i < place → node_at new i ≡ node_at row i = λ i below. ap number (get_or-insert_below row place edge past_end i below gap.within) in
+        let here : (i : ℕ) → i ≡ place → node_at new i ≡ node = λ i same. rw same (ap number (get_or-insert_at row place edge past_end gap.within)) in
+        let upper : (i : ℕ) → place < i → node_at new i ≡ node_at row (i - 1) = λ i above. subst (λ q. node_at new q ≡ node_at row (i - 1)) {x = i - 1 + 1} (omega arith) (ap number (get_or-insert_above row place edge past_end (i - 1) (omega arith) gap.within)) in
+        grind (arith, lower i, here i, upper i, lower j, here j, upper j, ascending.each i j, ascending.each i (j - 1), ascending.each (i - 1) (j - 1), gap.below i, gap.above (j - 1));
+  }

@@ -1,5 +1,5 @@
 -- Orders of a row that are at least so strong.
-use Rattle.std.proofs.Common.{◌≡◌, ◌∙◌, sym, ap, refl, ℕ, suc, ◌<◌, List, [], ◌∷◌, length, get_or, Bool, true, false, ◌||◌, ◌&&◌, nat_eq, if◌then◌else◌, Some, None, slice_get, arith}
+use Rattle.std.proofs.Common.{◌≡◌, ◌∙◌, sym, ap, refl, ℕ, suc, ◌<◌, List, [], ◌∷◌, get_or, Bool, true, false, ◌||◌, ◌&&◌, nat_eq, if◌then◌else◌, Some, None, slice_get, arith}
 use Rattle.std.proofs.lemmas.Bool.{eqb-true}
 use Rattle.std.proofs.lemmas.Option.{slice_get_within, get_or_from_slice_get}
 use Rattle.lm_graph.specs.declared.orders.Order.{Order}

@@ -1,7 +1,6 @@
 -- Graphs: nodes, and the orders between them.
-use Rattle.std.specs.Prelude.{◌≡◌, ◌≢◌, ℕ, ◌<◌, ◌≤◌, List, [], ◌∷◌, ◌++◌, length, Option, Some, None, slice_get, slice_set, slice_index_or, IsTrue}
+use Rattle.std.specs.Prelude.{◌≡◌, ◌≢◌, ℕ, ◌<◌, ◌≤◌, List, [], ◌∷◌, ◌++◌, length, Option, Some, slice_get, slice_set, slice_index_or, IsTrue}
 use Rattle.std.specs.List.{list_all}
-use Rattle.sas_task.specs.declared.contents.Fact.{Fact}
 use Rattle.lm_graph.specs.declared.orders.Order.{Order}
 use Rattle.lm_graph.specs.declared.orders.Edge.{Edge}
 use Rattle.lm_graph.specs.declared.nodes.Node.{Node}
@@ -23,11 +22,11 @@ content nodes rows = record { nodes = nodes; rows = rows }
 abbrev pub row_of : List (List Edge) → ℕ → List Edge
 row_of rows after = slice_index_or rows after []
 
--- in one row an order was put
-pub record RaisesAt (old new : List (List Edge)) (before after : ℕ) (kind : Order) : Type 0 where
+-- an order of a node was put into the row of another
+pub record RaisesAt (old new : List (List Edge)) (other node : ℕ) (kind : Order) : Type 0 where
   pub row : List Edge
-  pub rows : new ≡ slice_set old after row
-  pub raises : Raises (row_of old after) row before kind
+  pub rows : new ≡ slice_set old node row
+  pub raises : Raises (row_of old node) row other kind
 
 -- the order from a node to another, if one stands
 abbrev pub kind_of : Content → ℕ → ℕ → Option Order

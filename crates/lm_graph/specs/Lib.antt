@@ -1,3 +1,4 @@
+pub mod FactTables
 pub mod Graphs
 pub mod Keys
 pub mod Marks
@@ -5,3 +6,4 @@ pub mod Nodes
 pub mod Orders
 pub mod Paths
 pub mod Rows
+pub mod Turned

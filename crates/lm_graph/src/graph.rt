@@ -3,19 +3,21 @@ ghost use Rattle.std.specs.Prelude.{◌≡◌, ◌≢◌, ◌<◌, ◌↔◌, �
 ghost use Rattle.lm_graph.specs.declared.orders.Edge.{Edge as TheEdge};
 ghost use Rattle.lm_graph.specs.Nodes.{is_set, sets_of, IsAbsent, with_goal};
 ghost use Rattle.lm_graph.specs.Rows.{IsAscending};
-ghost use Rattle.lm_graph.specs.Graphs.{IsGraph, Adds, PutsOrder, RaisesAt, content, row_of, kind_of};
+ghost use Rattle.lm_graph.specs.Graphs.{IsGraph, Adds, PutsOrder, content, row_of, kind_of};
 ghost use Rattle.lm_graph.specs.Keys.{AreKeys};
 ghost use Rattle.lm_graph.specs.Marks.{is_seen};
 ghost use Rattle.lm_graph.specs.Paths.{HasPath};
+ghost use Rattle.lm_graph.specs.Turned.{AreSuccessors};
 
 use crate::nodes::{Added, Node};
 use crate::orders::{Edge, Order};
-use crate::reach::flood;
-use crate::rows::Row;
+use crate::reach::{edges_at, flood};
+use crate::rows::{Row, raise_at};
+use crate::successors::Successors;
 use indexmap::IndexSet;
 use lama_num::{NoMemory, Seq};
 use sas_task::Fact;
-use std::alloc::{AllocError, Global};
+use std::alloc::Global;
 use std::marker::Model;
 
 /// As many nodes as a graph may have.
@@ -46,9 +48,9 @@ impl Model for Graph {
 }
 
 // Makes a node also a goal, if so.
-fn join_goal(nodes: &mut [Node], place: usize, goal: bool)
-    requires { place < length nodes.old }
-    ensures { nodes.new ≡ with_goal nodes.old place goal }
+fn join_goal(nodes: &mut Vec<Node>, place: usize, goal: bool)
+    requires { place < vec_len nodes.old }
+    ensures { nodes.new.items ≡ with_goal nodes.old.items place goal }
 {
     if goal {
         let node = &mut nodes[place];
@@ -92,15 +94,6 @@ fn push_node(
     Ok(())
 }
 
-fn raise_at(rows: &mut [Row], before: u32, after: usize, kind: Order) -> Result<(), AllocError>
-    requires { after < length rows.old }
-    ensures ok { OnOk result (RaisesAt rows.old rows.new before after kind) }
-    ensures err { OnErr result (rows.new ≡ rows.old) }
-{
-    let row = &mut rows[after];
-    row.raise(before, kind)
-}
-
 impl Graph {
     /// The graph without a node, which takes no memory.
     pub fn new(alloc: Global) -> Graph
@@ -135,22 +128,31 @@ impl Graph {
 
     /// Adds a node, unless one has the same facts or there are as many as may be. A node that is
     /// there keeps its cost, and is a goal as well if so.
-    pub fn add(
-        &mut self,
-        facts: &[Fact],
-        least: Option<u32>,
-        goal: bool,
-    ) -> Result<Added, NoMemory>
+    pub fn add(&mut self, facts: &[Fact], least: Option<u32>, goal: bool) -> Result<Added, NoMemory>
         requires { IsTrue (is_set facts.now) }
         ensures ok { IfOk result (λ added. Adds self.old self.new
             (record { facts = facts.now; least = least; goal = goal }) added) }
         ensures err { OnErr result (self.new ≡ self.old) }
         ensures graph { IsGraph self.new }
     {
-        if let Some(place) = self.number(facts) {
-            join_goal(&mut self.nodes, place as usize, goal);
-            return Ok(Added::Known(place));
+        match self.number(facts) {
+            Some(place) => {
+                join_goal(&mut self.nodes, place as usize, goal);
+                Ok(Added::Known(place))
+            }
+            None => self.add_new(facts, least, goal),
         }
+    }
+
+    // Adds a node that isn't there, unless there are as many as may be.
+    fn add_new(&mut self, facts: &[Fact], least: Option<u32>, goal: bool) -> Result<Added, NoMemory>
+        requires set { IsTrue (is_set facts.now) }
+        requires absent { IsAbsent self.old.nodes facts.now }
+        ensures ok { IfOk result (λ added. Adds self.old self.new
+            (record { facts = facts.now; least = least; goal = goal }) added) }
+        ensures err { OnErr result (self.new ≡ self.old) }
+        ensures graph { IsGraph self.new }
+    {
         let count = self.nodes.len();
         if count >= MOST_NODES {
             return Ok(Added::Full);
@@ -189,10 +191,18 @@ impl Graph {
         requires { node < length self.now.nodes }
         ensures orders { result.now ≡ row_of self.now.rows node }
         ensures ascending { IsAscending result.now }
-        ensures within { (place : ℕ) (edge : TheEdge) → slice_get result.now place ≡ Some edge →
-            edge.node < length self.now.nodes }
+        ensures each { (place : ℕ) (edge : TheEdge) → slice_get result.now place ≡ Some edge →
+            (edge.node < length self.now.nodes)
+            × (kind_of self.now edge.node node ≡ Some edge.kind) }
     {
-        self.rows[node as usize].edges()
+        edges_at(&self.rows, node as usize)
+    }
+
+    /// The orders by the node that each comes from.
+    pub fn successors(&self) -> Result<Successors, NoMemory>
+        ensures { IfOk result (AreSuccessors self.now) }
+    {
+        Ok(Successors::new(*self.nodes.allocator(), &self.rows)?)
     }
 
     /// For each node whether a path of one or more orders, each at least that strong, leads from it

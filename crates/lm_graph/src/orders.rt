@@ -1,6 +1,6 @@
 // Orders between nodes.
-ghost use Rattle.std.specs.Prelude.{◌≡◌};
-ghost use Rattle.lm_graph.specs.Orders.{strength_of, stronger as the_stronger};
+ghost use Rattle.std.specs.Prelude.{◌≡◌, Some};
+ghost use Rattle.lm_graph.specs.Orders.{strength_of, stronger as the_stronger, is_strong};
 
 /// How strong an order is, from the weakest.
 ///
@@ -31,6 +31,13 @@ impl Order {
             Order::Natural => 2,
             Order::GreedyNecessary => 3,
         }
+    }
+
+    /// Whether the order is at least as strong as another.
+    pub fn is_as_strong(self, weakest: Order) -> bool
+        ensures { result ≡ is_strong weakest (Some self) }
+    {
+        weakest.strength() <= self.strength()
     }
 
     /// The stronger of this order and another.

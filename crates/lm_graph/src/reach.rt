@@ -37,14 +37,14 @@ fn mark_row(
         seen.new.items queue.new.items) }
 {
     for edge in row {
-        if weakest.strength() <= edge.kind.strength() {
+        if edge.kind.is_as_strong(weakest) {
             mark(seen, queue, edge.node)?;
         }
     }
     Ok(())
 }
 
-fn edges_at(rows: &[Row], node: usize) -> &[Edge]
+pub(crate) fn edges_at(rows: &[Row], node: usize) -> &[Edge]
     requires { node < length rows.now }
     ensures edges { result.now ≡ row_of rows.now node }
     ensures ascending { IsAscending result.now }

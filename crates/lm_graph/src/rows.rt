@@ -1,5 +1,6 @@
 // Orders of one node.
-ghost use Rattle.std.specs.Prelude.{◌≡◌, [], IfOk, IfErr, OnOk, OnErr};
+ghost use Rattle.std.specs.Prelude.{◌≡◌, ◌<◌, [], length, IfOk, IfErr, OnOk, OnErr};
+ghost use Rattle.lm_graph.specs.Graphs.{RaisesAt};
 ghost use Rattle.lm_graph.specs.Rows.{kind_in, IsAscending, IsAt, IsGapFor, Raises};
 
 use crate::orders::{Edge, Order};
@@ -45,8 +46,7 @@ impl Row {
         ensures found { IfOk result (IsAt self.now node) }
         ensures absent { IfErr result (IsGapFor self.now node) }
     {
-        self.edges
-            .binary_search_by_key(&node, |edge| edge.node)
+        self.edges.binary_search_by_key(&node, |edge| edge.node)
     }
 
     /// The order of another node, if one stands. It is looked for by halves.
@@ -73,4 +73,19 @@ impl Row {
             Err(place) => Ok(self.edges.insert(place, Edge { node, kind })?),
         }
     }
+}
+
+// Puts an order of a node into the row of another.
+pub(crate) fn raise_at(
+    rows: &mut Vec<Row>,
+    other: u32,
+    node: usize,
+    kind: Order,
+) -> Result<(), AllocError>
+    requires { node < length rows.old.items }
+    ensures ok { OnOk result (RaisesAt rows.old.items rows.new.items other node kind) }
+    ensures err { OnErr result (rows.new.items ≡ rows.old.items) }
+{
+    let row = &mut rows[node];
+    row.raise(other, kind)
 }

@@ -1,0 +1,5 @@
+use Rattle.lm_graph.proofs.Turning.{TurnedBelow}
+use Rattle.lm_graph.proofs.successors.turn.Given as goal
+
+abbrev pub invariant-loop-after : goal.invariant-loop-after
+invariant-loop-after l = TurnedBelow l.rows l.turned.items l.after
