@@ -1,21 +1,24 @@
 -- What lists of conditions ask for, and the sets of one predicate.
-use Rattle.std.proofs.Common.{◌≡◌, ◌∙◌, sym, ap, refl, subst, ℕ, suc, ◌+◌, ◌<◌, ◌≤◌, List, [], ◌∷◌, ◌++◌, length, Bool, true, false, ◌&&◌, ◌||◌, Option, Some, None, slice_get, inl, inr, ◌⊎◌, arith}
+use Rattle.std.proofs.Common.{◌≡◌, ◌∙◌, sym, ap, refl, subst, ℕ, suc, ◌+◌, ◌<◌, ◌≤◌, List, [], ◌∷◌, ◌++◌, length, take, Bool, true, false, ◌&&◌, ◌||◌, nat_eq, Option, Some, None, slice_get, inl, inr, ◌⊎◌, arith}
+use Rattle.std.specs.Prelude.{insert}
 use Rattle.std.specs.List.{list_all, list_any}
-use Rattle.std.proofs.lemmas.Bool.{and_parts, and_from, or_cases, or_left, or_right, both_ways}
+use Rattle.std.proofs.lemmas.Bool.{and_parts, and_from, or_cases, or_left, or_right, both_ways, eqb-true}
 use Rattle.std.proofs.lemmas.Option.{same_Some, none-some}
+use Rattle.std.proofs.lemmas.List.{map-append}
 use Rattle.lama_num.specs.Lists.{list_all_get}
+use Rattle.sas_task.specs.WellFormed.{is_fact}
 use Rattle.sas_task.specs.Facts.{same_fact, predicate_of}
 use Rattle.sas_task.specs.declared.contents.Fact.{Fact}
 use Rattle.sas_task.specs.declared.contents.Parts.{Parts}
 use Rattle.relaxed_task.specs.Facts.{facts_equal, over_facts}
-use Rattle.relaxed_task.specs.PlanLaws.{has_append}
+use Rattle.relaxed_task.specs.PlanLaws.{has_append, all_has, all_from}
 use Rattle.lm_graph.specs.Nodes.{is_ascending}
-use Rattle.lm_backchain.specs.Asked.{IsOf, IsFactOf, IsAsked, Collects, AllAsk, IsSetFor, all_have, AddsSet, HasSets, PutsSet}
+use Rattle.lm_backchain.specs.Asked.{IsOf, IsFactOf, IsAsked, Collects, AllAsk, IsSetFor, all_have, AddsSet, HasSets, PutsSet, AreFacts}
 use Rattle.lm_backchain.specs.Backchain.{has, is_open, Among, singles, IsPossibleFirst, IsShared, IsWanted, IsOfOnePredicate, GivesGreedy, shared, one_of}
 use Rattle.lm_backchain.specs.Firsts.{AreFirsts}
 use Rattle.lm_backchain.specs.Growth.{IsTakenBack}
 use Rattle.lm_backchain.proofs.FactLists.{same_self, has_one, has_self, has_at, at_has}
-use Rattle.lm_backchain.proofs.Listing.{among_front, among_back, among_cases, among_one, among_itself, among_none, single_at, at_single}
+use Rattle.lm_backchain.proofs.Listing.{among_front, among_back, among_cases, among_one, among_itself, among_none, single_at, at_single, take_more_at, put_kept, put_there, put_cases}
 use Rattle.lm_backchain.proofs.Ordered.{shorter, same_ascending}
 
 -- collecting
@@ -231,3 +234,81 @@ taken_back_closed parts node closed = record { each = λ a m. absurd (among_none
     by : (a b : List Fact) → GivesGreedy parts a b → is_open parts b ≡ false → ⊥
     by a b (shared free s) closed = both_ways _ closed free
     by a b (one_of free s) closed = both_ways _ closed free
+
+-- steps of loops
+
+pub none_more : (parts : Parts) (predicate : List ℕ) (facts : List Fact) (i : ℕ) (x : Fact) → slice_get facts i ≡ Some x → ((f : Fact) → IsOf parts predicate (take i facts) f → ⊥) → (predicate_of parts x ≡ Some predicate → ⊥) → (f : Fact) → IsOf parts predicate (take (i + 1) facts) f → ⊥
+none_more parts predicate facts i x at none not_x f w =
+    elim (has_more (take i facts) x f (subst (λ fs. has fs f ≡ true) (take_more_at facts i x at) w.asked)) [
+      | inl l ↦ none f (record { is_of = w.is_of; asked = l })
+      | inr e ↦ not_x (ap (predicate_of parts) (sym e) ∙ w.is_of)
+    ]
+
+pub ask_more : (parts : Parts) (predicate : List ℕ) (lists : List (List Fact)) (i : ℕ) (x : List Fact) → slice_get lists i ≡ Some x → AllAsk parts predicate (take i lists) → (f : Fact) × IsOf parts predicate x f → AllAsk parts predicate (take (i + 1) lists)
+ask_more parts predicate lists i x at all own conds m =
+    elim (among_cases (take i lists) (x ∷ []) conds (subst (λ ls. Among ls conds) (take_more_at lists i x at) m)) [
+      | inl l ↦ all conds l
+      | inr r ↦ subst (λ cs. (f : Fact) × IsOf parts predicate cs f) (sym (among_one x conds r)) own
+    ]
+
+pub of_next : (parts : Parts) (predicate : List ℕ) (old mid new facts : List Fact) (i : ℕ) (x : Fact) → slice_get facts i ≡ Some x → Collects old mid (IsOf parts predicate (take i facts)) → Collects mid new (IsFactOf parts predicate x) → Collects old new (IsOf parts predicate (take (i + 1) facts))
+of_next parts predicate old mid new facts i x at a b = subst (λ fs. Collects old new (IsOf parts predicate fs)) (sym (take_more_at facts i x at)) (of_more parts predicate old mid new (take i facts) x a b)
+
+pub asked_next : (parts : Parts) (predicate : List ℕ) (old mid new : List Fact) (lists : List (List Fact)) (i : ℕ) (x : List Fact) → slice_get lists i ≡ Some x → Collects old mid (IsAsked parts predicate (take i lists)) → Collects mid new (IsOf parts predicate x) → Collects old new (IsAsked parts predicate (take (i + 1) lists))
+asked_next parts predicate old mid new lists i x at a b = subst (λ ls. Collects old new (IsAsked parts predicate ls)) (sym (take_more_at lists i x at)) (asked_more parts predicate old mid new (take i lists) x a b)
+
+pub no_asked : (parts : Parts) (predicate : List ℕ) (f : Fact) → IsAsked parts predicate [] f → ⊥
+no_asked parts predicate f w = among_none w.conds w.among
+
+pub no_of : (parts : Parts) (predicate : List ℕ) (f : Fact) → IsOf parts predicate [] f → ⊥
+no_of parts predicate f w = let k : false ≡ true = w.asked in both_ways false refl k
+
+-- what is collected are facts of the task
+pub collected_facts : (parts : Parts) (predicate : List ℕ) (lists : List (List Fact)) (set : List Fact) → AreFacts parts.variables lists → Collects [] set (IsAsked parts predicate lists) → list_all (is_fact parts.variables) set ≡ true
+collected_facts parts predicate lists set there c = all_from over_facts (is_fact parts.variables) set (λ f h. elim (c.sound f h) [
+  | inl n ↦ (let k : false ≡ true = n in absurd (both_ways false refl k))
+  | inr w ↦ all_has over_facts (is_fact parts.variables) w.conds f (there w.conds w.among) w.is.asked
+])
+
+-- one shared fact more
+pub shared_more : (lists : List (List Fact)) (front : List Fact) (i : ℕ) (x : Fact) (old new : List Fact) → slice_get front i ≡ Some x → ((f : Fact) → has old f ≡ (has (take i front) f && all_have lists f)) →
+    ((f : Fact) → has new f ≡ ((same_fact f x && all_have lists x) || has old f)) → (f : Fact) → has new f ≡ (has (take (i + 1) front) f && all_have lists f)
+shared_more lists front i x old new at was is f =
+    is f ∙ (ap (λ b. (same_fact f x && all_have lists x) || b) (was f) ∙ (by (same_fact f x) refl (has (take i front) f) ∙ ap (λ b. b && all_have lists f) (sym (ap (λ fs. has fs f) (take_more_at front i x at) ∙ has_append over_facts (take i front) (x ∷ []) f))))
+  where
+    by : (b : Bool) → same_fact f x ≡ b → (h : Bool) → ((b && all_have lists x) || (h && all_have lists f)) ≡ ((h || (b || false)) && all_have lists f)
+    by true e h = let same : all_have lists x ≡ all_have lists f = ap (all_have lists) (sym (facts_equal f x e)) in rw same (at_true (all_have lists f) h)
+      where
+        at_true : (a h : Bool) → (a || (h && a)) ≡ ((h || true) && a)
+        at_true true true = refl
+        at_true true false = refl
+        at_true false true = refl
+        at_true false false = refl
+    by false e true = refl
+    by false e false = refl
+
+pub single_more : (facts : List Fact) (i : ℕ) (x : Fact) → slice_get facts i ≡ Some x → singles (take (i + 1) facts) ≡ singles (take i facts) ++ (x ∷ []) ∷ []
+single_more facts i x at = ap singles (take_more_at facts i x at) ∙ map-append (λ (f : Fact). f ∷ []) (take i facts) (x ∷ [])
+
+pub puts_set : (old new : List (List Fact)) (place : ℕ) (set : List Fact) → new ≡ insert old place set → PutsSet old new set
+puts_set old new place set is = subst (λ n. PutsSet old n set) (sym is) (record {
+  kept = λ other m. put_kept old place set other m;
+  there = put_there old place set;
+  only = λ other m. put_cases old place set other m;
+})
+
+pub and_yes : (a b c : Bool) → b ≡ true → (a || c) ≡ ((a && b) || c)
+and_yes true b c is = rw is refl
+and_yes false b c is = refl
+
+pub and_no : (a b c : Bool) → b ≡ false → c ≡ ((a && b) || c)
+and_no true b c is = rw is refl
+and_no false b c is = refl
+
+pub nothing_there : (lists : List (List Fact)) → nat_eq (length lists) 0 ≡ true → lists ≡ []
+nothing_there [] is = refl
+nothing_there (x ∷ lists) is = let e = eqb-true (length (x ∷ lists)) 0 is in absurd (omega (arith, e))
+
+pub something_there : (lists : List (List Fact)) → nat_eq (length lists) 0 ≡ false → 0 < length lists
+something_there [] is = let k : true ≡ false = is in cc
+something_there (x ∷ lists) is = omega arith

@@ -1,7 +1,8 @@
 -- Nodes that come in, and the orders to what they were taken back from.
 use Rattle.std.proofs.Common.{◌≡◌, ◌≢◌, ◌∙◌, sym, ap, refl, subst, ℕ, zero, suc, ◌+◌, ◌<◌, ◌≤◌, List, [], ◌∷◌, ◌++◌, length, map, take, Bool, true, false, ◌||◌, Option, Some, None, slice_get, slice_set, inl, inr, ◌⊎◌, arith, append_assoc, length-append, if◌then◌else◌}
 use Rattle.std.specs.Prelude.{nat_lt}
-use Rattle.std.proofs.lemmas.Bool.{cases_eq, cases_lt}
+use Rattle.std.specs.List.{list_any}
+use Rattle.std.proofs.lemmas.Bool.{cases_eq, and_parts, and_from, or_cases, or_left, not-true, both_ways, le-leb}
 use Rattle.std.proofs.lemmas.List.{append-nil, length-map, map-append}
 use Rattle.std.proofs.lemmas.Option.{same_Some, none-some, slice_get_within}
 use Rattle.lama_num.specs.Lists.{slice_get-append_front}
@@ -13,11 +14,16 @@ use Rattle.lm_graph.specs.declared.nodes.Node.{Node}
 use Rattle.lm_graph.specs.declared.nodes.Added.{Added}
 use Rattle.lm_graph.specs.declared.nodes.Added.TheVariants.{New, Known, Full}
 use Rattle.lm_graph.specs.Graphs.{Content, kind_of, most_nodes, IsGraph, Adds, AddsNew, FindsKnown, IsFull, PutsOrder, SameOrders}
-use Rattle.lm_graph.specs.Nodes.{sets_of, IsAbsent, with_goal}
+use Rattle.lm_graph.specs.Nodes.{is_set, sets_of, IsAbsent, with_goal}
 use Rattle.lm_graph.specs.Orders.{stronger}
-use Rattle.lm_backchain.specs.Backchain.{Among, GivesGreedy, IsNode, back, node_of}
-use Rattle.lm_backchain.specs.Growth.{Takes, IsGreedy, Works, IsTakenBack, number_in}
-use Rattle.lm_backchain.proofs.Listing.{push_cases, front_get, among_cases, among_one, among_front, among_none}
+use Rattle.relaxed_task.specs.Facts.{start_facts}
+use Rattle.relaxed_task.specs.Reached.{IsReached, is_reached_in, is_given}
+use Rattle.sas_task.specs.Facts.{same_fact}
+use Rattle.sas_task.specs.Runs.{start_of}
+use Rattle.lm_backchain.specs.Backchain.{has, Among, GivesGreedy, shared, one_of, IsNode, back, node_of}
+use Rattle.lm_backchain.specs.Growth.{Takes, IsGreedy, Works, IsTakenBack, IsTakenBackAt, number_in}
+use Rattle.lm_backchain.proofs.FactLists.{has_self, same_self}
+use Rattle.lm_backchain.proofs.Listing.{push_cases, front_get, among_cases, among_one, among_front, among_none, read_at, take_more_at}
 
 abbrev facts_of : Node → List Fact
 facts_of n = n.facts
@@ -247,3 +253,74 @@ works_next parts graph place lists w taken_back = record {
   ];
   under_way = λ a m. absurd (among_none a m);
 }
+
+-- what a node is taken back to is a set, and another node
+
+pub greedy_set : (parts : Parts) (a b : List Fact) → GivesGreedy parts a b → is_set a ≡ true
+greedy_set parts a b (shared free s) = refl
+greedy_set parts a b (one_of free s) = and_from _ _ (and_from _ _ (le-leb 1 (length a) (let two = s.some in omega (arith, two))) (le-leb (length a) 4 s.few)) s.ascending
+
+reached_outside : (parts : Parts) (b : List Fact) (f : Fact) → IsReached parts (start_of parts) b f → has b f ≡ false
+reached_outside parts b f r = by r.round r.reached
+  where
+    by : (n : ℕ) → is_reached_in parts (start_of parts) b n f ≡ true → has b f ≡ false
+    by zero h = not-true _ (and_parts (list_any (same_fact f) (start_facts parts (start_of parts))) _ h).1
+    by (suc n) h = elim (or_cases (is_reached_in parts (start_of parts) b n f) _ h) [
+      | inl before ↦ by n before
+      | inr now ↦ not-true _ (and_parts (is_given parts (is_reached_in parts (start_of parts) b n) f) _ now).1
+    ]
+
+pub never_itself : (parts : Parts) (a b : List Fact) → GivesGreedy parts a b → a ≢ b
+never_itself parts a b (shared {fact = f} free s) same =
+    both_ways _ (reached_outside parts b f (s.possible.reached f (s.every s.some s.possible))) (subst (λ n. has n f ≡ true) same (has_self f))
+never_itself parts a b (one_of free s) same = by a refl
+  where
+    by : (n : List Fact) → a ≡ n → ⊥
+    by [] is = let two = s.some in let e = ap length is in omega (arith, two, e)
+    by (f ∷ fs) is =
+        let own : has a f ≡ true = subst (λ n. has n f ≡ true) (sym is) (or_left _ _ (same_self f)) in
+        let w = s.only f own in
+        both_ways _ (reached_outside parts b f (w.possible.reached f w.asked)) (subst (λ n. has n f ≡ true) same own)
+
+-- the facts of a node
+pub facts_within : (graph : Content) (place : ℕ) → place < length graph.nodes → (b : List Fact) × (slice_get (sets_of graph.nodes) place ≡ Some b)
+facts_within graph place lt = let l = length-map graph.nodes facts_of in (_, read_at (sets_of graph.nodes) place [] (omega (arith, l, lt)))
+
+pub set_within : (graph : Content) (place : ℕ) (b : List Fact) → slice_get (sets_of graph.nodes) place ≡ Some b → place < length graph.nodes
+set_within graph place b at = let lt = slice_get_within (sets_of graph.nodes) place b at in let l = length-map graph.nodes facts_of in omega (arith, lt, l)
+
+pub kept_set : (parts : Parts) (old mid : Content) (a : List Fact) (i : ℕ) (x : List Fact) → Extends parts old mid a → slice_get (sets_of old.nodes) i ≡ Some x → slice_get (sets_of mid.nodes) i ≡ Some x
+kept_set parts old mid a i x e at = ap (λ ss. slice_get ss i) e.sets ∙ front_get (sets_of old.nodes) e.more i x at
+
+pub stays_at : (old new : Content) (i : ℕ) (x : List Fact) → new.nodes ≡ old.nodes → slice_get (sets_of old.nodes) i ≡ Some x → slice_get (sets_of new.nodes) i ≡ Some x
+stays_at old new i x same at = ap (λ (ns : List Node). slice_get (map facts_of ns) i) same ∙ at
+
+pub still_back : (parts : Parts) (old new : Content) (place : ℕ) (lists : List (List Fact)) (lt : place < length old.nodes) → IsTakenBackAt parts old place lists → slice_get (sets_of new.nodes) place ≡ Some (facts_within old place lt).0 → IsTakenBackAt parts new place lists
+still_back parts old new place lists lt was at b own = was b ((facts_within old place lt).1 ∙ (sym at ∙ own))
+
+-- one of the facts that a node is taken back to, at a place of their list
+module _ (parts : Parts) (old : Content) (place : ℕ) (lists : List (List Fact)) (k : ℕ) (a : List Fact) (lt : place < length old.nodes) (back_to : IsTakenBackAt parts old place lists) (at : slice_get lists k ≡ Some a) where
+  pub this_gives : GivesGreedy parts a (facts_within old place lt).0
+  this_gives = (back_to (facts_within old place lt).0 (facts_within old place lt).1).each a (record { place = k; at = at })
+
+  module _ (mid : Content) (added : Added) (works : Works parts old place (take k lists)) (adds : Adds old mid (node_of parts a) added) where
+    pub this_extends : Extends parts old mid a
+    this_extends = extends parts old mid a added works.nodes_are adds
+
+    this_works : Works parts mid place (take k lists)
+    this_works = works_extended parts old mid place (take k lists) a works lt this_extends (back (works.found (facts_within old place lt).0 (record { place = place; at = (facts_within old place lt).1 })) this_gives)
+
+    pub this_place : slice_get (sets_of mid.nodes) place ≡ Some (facts_within old place lt).0
+    this_place = kept_set parts old mid a place (facts_within old place lt).0 this_extends (facts_within old place lt).1
+
+    pub this_at : (p : ℕ) → number_in added ≡ Some p → slice_get (sets_of mid.nodes) p ≡ Some a
+    this_at p is = added_at parts old mid a added p works.nodes_are adds is
+
+    pub this_other : (p : ℕ) → number_in added ≡ Some p → p ≢ place
+    this_other p is same = never_itself parts a (facts_within old place lt).0 this_gives (same_Some _ _ (sym (this_at p is) ∙ (ap (slice_get (sets_of mid.nodes)) same ∙ this_place)))
+
+    pub this_ordered : (p : ℕ) (new : Content) → IsGraph mid → number_in added ≡ Some p → PutsOrder mid new p place GreedyNecessary → Works parts new place (take (k + 1) lists)
+    this_ordered p new graph is o = subst (Works parts new place) (sym (take_more_at lists k a at)) (works_ordered parts mid new p place (take k lists) a (facts_within old place lt).0 this_works graph (this_at p is) this_place this_gives o)
+
+    pub this_full : number_in added ≡ None → Works parts mid place (take (k + 1) lists)
+    this_full is = subst (Works parts mid place) (sym (take_more_at lists k a at)) (works_full parts old mid place (take k lists) a this_works (is_full old mid (node_of parts a) added adds is))

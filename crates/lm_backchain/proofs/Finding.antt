@@ -150,3 +150,7 @@ firsts_done parts node n lists all h = record {
   each = h.each;
   all = λ conds first. h.all conds first (inl (let lt = slice_get_within parts.operators first.op first.operator first.at in omega (arith, lt, all)));
 }
+
+-- the initial state has a value for each variable
+pub start_long : (parts : Parts) (start : List ℕ) → IsWellFormed parts → start ≡ start_of parts → length start ≡ length parts.variables
+start_long parts start formed is = ap length is ∙ (start-state parts formed).long

@@ -213,3 +213,16 @@ is_backchain parts old new w nodes u graph = record {
   where
     same : sets_of new.nodes ≡ sets_of old.nodes
     same = ap (map facts_of) nodes
+
+-- what stands behind an order of the graph
+strongest_greedy : (parts : Parts) (a b : List Fact) (o : Option Order) → o ≡ Some GreedyNecessary → IsStrongest parts a b o → GivesGreedy parts a b
+strongest_greedy parts a b o is s = subst (IsStrongest parts a b) is s
+
+pub greedy_of : (parts : Parts) (graph : Content) (i j : ℕ) (a b : List Fact) → Backchain parts graph → slice_get (sets_of graph.nodes) i ≡ Some a → slice_get (sets_of graph.nodes) j ≡ Some b → kind_of graph i j ≡ Some GreedyNecessary → GivesGreedy parts a b
+greedy_of parts graph i j a b g at_i at_j is = strongest_greedy parts a b (kind_of graph i j) is (g.strongest i j a b at_i at_j)
+
+pub natural_of : (parts : Parts) (graph : Content) (i j : ℕ) (a b : List Fact) → Backchain parts graph → slice_get (sets_of graph.nodes) i ≡ Some a → slice_get (sets_of graph.nodes) j ≡ Some b → kind_of graph i j ≡ Some Natural → GivesNatural parts a b
+natural_of parts graph i j a b g at_i at_j is = (two (kind_of graph i j) is (g.strongest i j a b at_i at_j)).0
+  where
+    two : (o : Option Order) → o ≡ Some Natural → IsStrongest parts a b o → GivesNatural parts a b × (GivesGreedy parts a b → ⊥)
+    two o is s = subst (IsStrongest parts a b) is s

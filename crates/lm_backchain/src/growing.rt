@@ -56,12 +56,18 @@ fn add_before(
     requires back { IsTakenBackAt task.now graph.old place list.now }
     requires at { at < length list.now }
     requires works { Works task.now graph.old place (take at list.now) }
-    ensures { OnOk result (Works task.now graph.new place (take (at + 1) list.now)) }
+    ensures works { OnOk result (Works task.now graph.new place (take (at + 1) list.now)) }
+    ensures place { OnOk result (place < length graph.new.nodes) }
+    ensures back { OnOk result (IsTakenBackAt task.now graph.new place list.now) }
 {
-    if let Some(before) = number_of(add_node(task, graph, &list[at])?) {
-        graph.order(before, place, Order::GreedyNecessary)?;
+    let added = add_node(task, graph, &list[at])?;
+    match number_of(added) {
+        Some(before) => {
+            graph.order(before, place, Order::GreedyNecessary)?;
+            Ok(())
+        }
+        None => Ok(()),
     }
-    Ok(())
 }
 
 fn add_list(
@@ -73,7 +79,8 @@ fn add_list(
     requires place { place < length graph.old.nodes }
     requires back { IsTakenBackAt task.now graph.old place list.now }
     requires works { Works task.now graph.old place [] }
-    ensures { OnOk result (Works task.now graph.new (place + 1) []) }
+    ensures works { OnOk result (Works task.now graph.new (place + 1) []) }
+    ensures place { OnOk result (place < length graph.new.nodes) }
 {
     for at in 0..list.len() {
         add_before(task, graph, place, list, at)?;
@@ -103,11 +110,13 @@ fn take_back(
     requires add { IsRelaxed task.now One add.old.relaxed }
     requires works { Works task.now graph.old place [] }
     ensures works { OnOk result (Works task.now graph.new (place + 1) []) }
+    ensures place { OnOk result (place < length graph.new.nodes) }
     ensures add { add.new.relaxed ≡ add.old.relaxed }
 {
     let node = facts_at(alloc, graph, place)?;
     let list = taken_back(alloc, task, start, add, &node)?;
-    add_list(task, graph, place, &list)
+    add_list(task, graph, place, &list)?;
+    Ok(())
 }
 
 /// Takes the nodes back in turn, those that come in as well.
@@ -125,7 +134,7 @@ pub fn grow(
     ensures add { add.new.relaxed ≡ add.old.relaxed }
 {
     let mut place: u32 = 0;
-    'nodes: while (place as usize) < graph.nodes().len() {
+    'places: while (place as usize) < graph.nodes().len() {
         take_back(alloc, task, start, add, graph, place)?;
         place += 1;
     }

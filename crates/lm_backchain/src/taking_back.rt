@@ -1,7 +1,7 @@
 // What a node is taken back to.
-ghost use Rattle.std.specs.Prelude.{◌≡◌, ◌≤◌, ◌&&◌, ◌↔◌, ◌++◌, ◌∷◌, [], List, length, true, Some, IsTrue, IfOk, OnOk};
+ghost use Rattle.std.specs.Prelude.{◌≡◌, ◌≤◌, ◌&&◌, ◌||◌, ◌↔◌, ◌++◌, ◌∷◌, [], List, length, true, Some, IsTrue, IfOk, OnOk};
 ghost use Rattle.std.specs.List.{list_all};
-ghost use Rattle.sas_task.specs.Facts.{predicate_of};
+ghost use Rattle.sas_task.specs.Facts.{predicate_of, same_fact};
 ghost use Rattle.sas_task.specs.Runs.{start_of};
 ghost use Rattle.sas_task.specs.WellFormed.{is_fact};
 ghost use Rattle.sas_task.specs.declared.contents.CostKind.TheVariants.{One};
@@ -26,6 +26,22 @@ fn all_have(lists: &[Seq<Fact>], fact: Fact) -> bool
     lists.iter().all(|conds| has(conds, fact))
 }
 
+fn put_shared(
+    lists: &[Seq<Fact>],
+    fact: Fact,
+    facts: &mut Vec<Fact>,
+) -> Result<(), AllocError>
+    requires { IsTrue (is_ascending facts.old.items) }
+    ensures ascending { OnOk result (IsTrue (is_ascending facts.new.items)) }
+    ensures has { OnOk result ((other : TheFact) → has_fact facts.new.items other
+        ≡ ((same_fact other fact && have_all lists.now fact) || has_fact facts.old.items other)) }
+{
+    if all_have(lists, fact) {
+        put_fact(facts, fact)?;
+    }
+    Ok(())
+}
+
 // The facts that all lists have, ascending, of those of one.
 fn shared(alloc: Global, lists: &[Seq<Fact>], front: &[Fact]) -> Result<Vec<Fact>, AllocError>
     ensures { IfOk result (λ facts. (fact : TheFact) →
@@ -33,9 +49,7 @@ fn shared(alloc: Global, lists: &[Seq<Fact>], front: &[Fact]) -> Result<Vec<Fact
 {
     let mut facts = Vec::new(alloc);
     for fact in front {
-        if all_have(lists, *fact) {
-            put_fact(&mut facts, *fact)?;
-        }
+        put_shared(lists, *fact, &mut facts)?;
     }
     Ok(facts)
 }
@@ -134,7 +148,11 @@ fn is_set_for(
     requires collected { Collects [] set.now (IsAsked task.now predicate.now lists.now) }
     ensures { IsTrue result ↔ IsSetFor task.now lists.now predicate.now set.now }
 {
-    if set.len() < 2 || set.len() > 4 {
+    let count = set.len();
+    if count < 2 {
+        return false;
+    }
+    if count > 4 {
         return false;
     }
     if !is_open(task, start, set) {
@@ -204,7 +222,10 @@ fn add_set_of(
         HasSets task.now lists.now (seeds ++ seed ∷ []) sets.new.items) }
 {
     match task.predicate(seed) {
-        Some(predicate) => add_set(task, start, predicate, lists, sets),
+        Some(predicate) => {
+            add_set(task, start, predicate, lists, sets)?;
+            Ok(())
+        }
         None => Ok(()),
     }
 }
@@ -229,12 +250,21 @@ fn sets_of(
     Ok(sets)
 }
 
+fn single(alloc: Global, fact: Fact) -> Result<Seq<Fact>, AllocError>
+    ensures { IfOk result (λ set. set ≡ fact ∷ []) }
+{
+    let mut facts = Vec::with_capacity(alloc, 1)?;
+    facts.push(fact)?;
+    Ok(Seq::from(facts))
+}
+
 fn single_sets(alloc: Global, facts: &[Fact]) -> Result<Vec<Seq<Fact>>, AllocError>
     ensures { IfOk result (λ sets. sets.items ≡ singles facts.now) }
 {
     let mut sets = Vec::with_capacity(alloc, facts.len())?;
     for fact in facts {
-        sets.push(Seq::from(vec![in alloc; *fact]?))?;
+        let set = single(alloc, *fact)?;
+        sets.push(set)?;
     }
     Ok(sets)
 }
@@ -252,15 +282,15 @@ fn back_from(
     ensures { IfOk result (λ sets. (node : List TheFact) → open_test task.now node ≡ true →
         AreFirsts task.now node lists.now → IsTakenBack task.now node sets.items) }
 {
-    match lists.first() {
-        None => Ok(Vec::new(alloc)),
-        Some(front) => {
-            let facts = shared(alloc, lists, front)?;
-            let mut sets = single_sets(alloc, &facts)?;
-            sets.append(&mut sets_of(alloc, task, start, lists, front)?)?;
-            Ok(sets)
-        }
+    if lists.is_empty() {
+        return Ok(Vec::new(alloc));
     }
+    let front = &lists[0];
+    let facts = shared(alloc, lists, front)?;
+    let mut sets = single_sets(alloc, &facts)?;
+    let mut more = sets_of(alloc, task, start, lists, front)?;
+    sets.append(&mut more)?;
+    Ok(sets)
 }
 
 /// What a node is taken back to: single facts, ascending, and then sets. It is nothing where one of
@@ -283,5 +313,6 @@ pub fn taken_back(
     }
     add.evaluate_without(start, node);
     let firsts = firsts_of(alloc, task, add, node)?;
-    back_from(alloc, task, start, &firsts)
+    let sets = back_from(alloc, task, start, &firsts)?;
+    Ok(sets)
 }
