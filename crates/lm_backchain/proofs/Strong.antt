@@ -198,11 +198,11 @@ closed parts graph w room a (back {b = b} d g) =
     let m = closed parts graph w room b d in
     (w.taken m.place a b (within graph m.place b m.at) m.at g).there room
 
-pub is_backchain : (parts : Parts) (old new : Content) → Works parts old (length old.nodes) [] → new.nodes ≡ old.nodes → IsUpTo parts new (length new.nodes) 0 → IsGraph new → Backchain parts new
+pub is_backchain : (parts : Parts) (old new : Content) → Works parts old (length old.nodes) [] → new.nodes ≡ old.nodes → IsUpTo parts new (length new.nodes) 0 → IsGraph old → Backchain parts new
 is_backchain parts old new w nodes u graph = record {
   goals = (w.goals.0, same ∙ w.goals.1);
   nodes_are = nodes ∙ (w.nodes_are ∙ ap (map (node_of parts)) (sym same));
-  distinct = graph.distinct.each;
+  distinct = λ i j facts at_i at_j. graph.distinct.each i j facts (ap (λ ss. slice_get ss i) (sym same) ∙ at_i) (ap (λ ss. slice_get ss j) (sym same) ∙ at_j);
   found = λ facts m. w.found facts (record { place = m.place; at = ap (λ ss. slice_get ss m.place) (sym same) ∙ m.at });
   closed = λ room facts node.
       let l = ap length nodes in

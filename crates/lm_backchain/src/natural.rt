@@ -130,10 +130,11 @@ fn order_from(
     ensures add { add.new.relaxed ≡ add.old.relaxed }
 {
     let facts = facts_at(alloc, graph, before)?;
-    if is_open_single(task, start, &facts) {
-        add.evaluate_without(start, &facts);
-        order_row(task, start, add, graph, before)?;
+    if !is_open_single(task, start, &facts) {
+        return Ok(());
     }
+    add.evaluate_without(start, &facts);
+    order_row(task, start, add, graph, before)?;
     Ok(())
 }
 
@@ -150,6 +151,7 @@ pub fn add_natural(
     requires long { length start.now ≡ length task.now.variables }
     requires add { IsRelaxed task.now One add.old.relaxed }
     requires greedy { IsUpTo task.now graph.old 0 0 }
+    ensures graph { IsGraph graph.old }
     ensures nodes { OnOk result (graph.new.nodes ≡ graph.old.nodes) }
     ensures orders { OnOk result (IsUpTo task.now graph.new (length graph.new.nodes) 0) }
 {

@@ -15,11 +15,11 @@ order_row-requires-clause-knows c =
     record {
       node = c.in_ok-facts.facts.items;
       at = c.in_ok-facts.ensures;
-      single = (rw c.deref.ensures.value at c.is_open_single.ensures).0 c.if-is_open_single.true;
+      single = (rw c.deref.ensures.value at c.is_open_single.ensures).0 c.if-not-is_open_single.false;
       knows = knows_from c.args.task.now c.in_ok-facts.facts.items c.args.start.now c.args.add.now c.evaluate_without.new.self c.requires.start c.requires.add c.evaluate_without.ensures.task there
           (rw c.deref-2.ensures.value at c.evaluate_without.ensures.costs);
     }
 
-pub returns-else-is_open_single-clause-so_far : goal.returns-else-is_open_single-clause-so_far
-returns-else-is_open_single-clause-so_far c = row_without c.args.task.now c.args.graph.now c.args.before c.in_ok-facts.facts.items c.in_ok-facts.ensures
-    (λ s. both_ways _ c.if-is_open_single.false ((rw c.deref.ensures.value at c.is_open_single.ensures).1 s)) c.requires.so_far
+pub returns-then-not-is_open_single-clause-so_far : goal.returns-then-not-is_open_single-clause-so_far
+returns-then-not-is_open_single-clause-so_far c = row_without c.args.task.now c.args.graph.now c.args.before c.in_ok-facts.facts.items c.in_ok-facts.ensures
+    (λ s. both_ways _ c.if-not-is_open_single.true ((rw c.deref.ensures.value at c.is_open_single.ensures).1 s)) c.requires.so_far
