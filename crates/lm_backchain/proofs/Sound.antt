@@ -96,10 +96,12 @@ greedy_open parts a b (one_of free s) = free
 pub node_sound : (parts : Parts) (a : List Fact) → IsWellFormed parts → IsNode parts a → Landmark parts a
 node_sound parts a formed (goal {fact = f} h) = λ ops states plan.
     let e = states_of-join parts (start_of parts) ops plan.plan.last plan.plan.leads in
-    let same : e.before ++ plan.plan.last ∷ [] ≡ states = same_Some _ _ (sym e.states ∙ plan.run) in
-    (length e.before, record {
-      state = plan.plan.last;
-      at = ap (λ ss. slice_get ss (length e.before)) (sym same) ∙ slice_get-append_last e.before plan.plan.last;
-      holds = any_has (holds plan.plan.last) (f ∷ []) f (has_self f) (all_has over_facts (holds plan.plan.last) parts.goal f plan.plan.goal h);
-    })
+    let same : e.before ++ plan.plan.last ∷ [] ≡ states = same_Some _ _ (sym e.states ∙ plan.run) in (
+      length e.before,
+      record {
+        state = plan.plan.last;
+        at = ap (λ ss. slice_get ss (length e.before)) (sym same) ∙ slice_get-append_last e.before plan.plan.last;
+        holds = any_has (holds plan.plan.last) (f ∷ []) f (has_self f) (all_has over_facts (holds plan.plan.last) parts.goal f plan.plan.goal h);
+      },
+    )
 node_sound parts a formed (back {b = b} d g) = back_sound parts a b (greedy_open parts a b g) (greedy_sound parts a b formed d g) (node_sound parts b formed d)

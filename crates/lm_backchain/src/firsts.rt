@@ -53,11 +53,7 @@ fn achieves(add: &Add, node: &[Fact], operator: &Operator, effect: &Effect) -> b
     all_reached(add, &effect.conds)
 }
 
-fn conditions(
-    alloc: Global,
-    operator: &Operator,
-    effect: &Effect,
-) -> Result<Seq<Fact>, AllocError>
+fn conditions(alloc: Global, operator: &Operator, effect: &Effect) -> Result<Seq<Fact>, AllocError>
     ensures { IfOk result (λ conds. conds ≡ conditions_of operator.now effect.now) }
 {
     let mut conds = Vec::from_slice(alloc, &operator.pre)?;

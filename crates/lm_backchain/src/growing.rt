@@ -70,12 +70,7 @@ fn add_before(
     }
 }
 
-fn add_list(
-    task: &Task,
-    graph: &mut Graph,
-    place: u32,
-    list: &[Seq<Fact>],
-) -> Result<(), NoMemory>
+fn add_list(task: &Task, graph: &mut Graph, place: u32, list: &[Seq<Fact>]) -> Result<(), NoMemory>
     requires place { place < length graph.old.nodes }
     requires back { IsTakenBackAt task.now graph.old place list.now }
     requires works { Works task.now graph.old place [] }

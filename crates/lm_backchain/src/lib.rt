@@ -9,7 +9,6 @@ mod backchaining;
 mod facts;
 mod firsts;
 mod growing;
-mod laws;
 mod natural;
 mod nodes;
 mod taking_back;

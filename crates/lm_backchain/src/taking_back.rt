@@ -26,11 +26,7 @@ fn all_have(lists: &[Seq<Fact>], fact: Fact) -> bool
     lists.iter().all(|conds| has(conds, fact))
 }
 
-fn put_shared(
-    lists: &[Seq<Fact>],
-    fact: Fact,
-    facts: &mut Vec<Fact>,
-) -> Result<(), AllocError>
+fn put_shared(lists: &[Seq<Fact>], fact: Fact, facts: &mut Vec<Fact>) -> Result<(), AllocError>
     requires { IsTrue (is_ascending facts.old.items) }
     ensures ascending { OnOk result (IsTrue (is_ascending facts.new.items)) }
     ensures has { OnOk result ((other : TheFact) → has_fact facts.new.items other
