@@ -1,0 +1,74 @@
+// What a graph has, as plain numbers, by functions that promise nothing, so that the proof of a test
+// has nothing to carry.
+use lama_num::NoMemory;
+use lm_backchain::landmarks;
+use lm_graph::{Graph, Node};
+use sas_task::Task;
+use std::alloc::{AllocError, Global};
+
+/// In place of a cost that isn't there.
+pub const NONE: u32 = 4_294_967_295;
+
+fn cost(least: Option<u32>) -> u32 {
+    match least {
+        Some(cost) => cost,
+        None => NONE,
+    }
+}
+
+// The facts of a node, its cost, and 1 where it is a goal.
+fn push_node(answers: &mut Vec<u32>, node: &Node) -> Result<(), AllocError> {
+    for fact in node.facts.as_slice() {
+        answers.push(fact.var)?;
+        answers.push(fact.val)?;
+    }
+    answers.push(cost(node.least))?;
+    answers.push(node.goal as u32)?;
+    Ok(())
+}
+
+fn push_order(
+    answers: &mut Vec<u32>,
+    graph: &Graph,
+    before: u32,
+    after: u32,
+) -> Result<(), AllocError> {
+    match graph.kind(before, after) {
+        Some(kind) => {
+            answers.push(before)?;
+            answers.push(after)?;
+            answers.push(kind.strength() as u32)?;
+        }
+        None => {}
+    }
+    Ok(())
+}
+
+fn push_orders(answers: &mut Vec<u32>, graph: &Graph, after: u32) -> Result<(), AllocError> {
+    let count = graph.nodes().len() as u32;
+    for before in 0..count {
+        push_order(answers, graph, before, after)?;
+    }
+    Ok(())
+}
+
+/// The nodes in order.
+pub fn nodes(alloc: Global, task: &Task) -> Result<Vec<u32>, NoMemory> {
+    let graph = landmarks(alloc, task)?;
+    let mut answers = Vec::new(alloc);
+    for node in graph.nodes() {
+        push_node(&mut answers, node)?;
+    }
+    Ok(answers)
+}
+
+/// The orders by the node that they lead to, each with how strong it is.
+pub fn orders(alloc: Global, task: &Task) -> Result<Vec<u32>, NoMemory> {
+    let graph = landmarks(alloc, task)?;
+    let mut answers = Vec::new(alloc);
+    let count = graph.nodes().len() as u32;
+    for after in 0..count {
+        push_orders(&mut answers, &graph, after)?;
+    }
+    Ok(answers)
+}

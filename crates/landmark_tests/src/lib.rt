@@ -1,0 +1,9 @@
+//! Tests of landmarks by backchaining: graphs that were worked by hand.
+#![tactic(auto)]
+
+#[cfg(test)]
+mod answers;
+#[cfg(test)]
+mod graphs;
+#[cfg(test)]
+mod gripper;

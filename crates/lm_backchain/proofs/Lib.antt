@@ -1,0 +1,13 @@
+pub mod Achieving
+pub mod Asking
+pub mod Costs
+pub mod FactLists
+pub mod Finding
+pub mod GoalFacts
+pub mod Coming
+pub mod Listing
+pub mod Ordered
+pub mod Runs
+pub mod Sound
+pub mod Sources
+pub mod Strong

@@ -1,0 +1,54 @@
+use Rattle.std.proofs.Common.{◌≡◌, ◌∙◌, sym, refl, arith, Some, slice_get}
+use Rattle.lm_backchain.proofs.Coming.{greedy_set, this_gives, this_extends, this_place, this_at, this_other, this_ordered, this_full, set_within, stays_at, still_back}
+use Rattle.lm_backchain.proofs.Listing.{item}
+use Rattle.lm_backchain.proofs.growing.add_before.Goals as goal
+
+pub add_node-requires : goal.add_node-requires
+add_node-requires c =
+    let at = item c.args.list.now c.args.at c.index-list-at.result _ c.requires.at c.index-list-at.is c.deref.ensures in
+    greedy_set c.args.task.now _ _ (this_gives c.args.task.now c.args.graph.now c.args.place c.args.list.now c.args.at _ c.requires.place c.requires.back at)
+
+pub order-requires-clause-before : goal.order-requires-clause-before
+order-requires-clause-before c =
+    let at = item c.args.list.now c.args.at c.index-list-at.result _ c.requires.at c.index-list-at.is c.deref.ensures in
+    set_within c.add_node.new.graph c.in-Some.before _ (this_at c.args.task.now c.args.graph.now c.args.place c.args.list.now c.args.at _ c.requires.place c.requires.back at c.add_node.new.graph c.in_ok-added.added c.requires.works c.in_ok-added.ensures.ok c.in-Some.before (sym c.number_of.ensures ∙ c.in-Some.is))
+
+pub order-requires-clause-after : goal.order-requires-clause-after
+order-requires-clause-after c =
+    let at = item c.args.list.now c.args.at c.index-list-at.result _ c.requires.at c.index-list-at.is c.deref.ensures in
+    set_within c.add_node.new.graph c.args.place _ (this_place c.args.task.now c.args.graph.now c.args.place c.args.list.now c.args.at _ c.requires.place c.requires.back at c.add_node.new.graph c.in_ok-added.added c.requires.works c.in_ok-added.ensures.ok)
+
+pub order-requires-clause-different : goal.order-requires-clause-different
+order-requires-clause-different c =
+    let at = item c.args.list.now c.args.at c.index-list-at.result _ c.requires.at c.index-list-at.is c.deref.ensures in
+    this_other c.args.task.now c.args.graph.now c.args.place c.args.list.now c.args.at _ c.requires.place c.requires.back at c.add_node.new.graph c.in_ok-added.added c.requires.works c.in_ok-added.ensures.ok c.in-Some.before (sym c.number_of.ensures ∙ c.in-Some.is)
+
+pub returns-in_ok-order-in-Some-clause-place : goal.returns-in_ok-order-in-Some-clause-place
+returns-in_ok-order-in-Some-clause-place c =
+    let at = item c.args.list.now c.args.at c.index-list-at.result _ c.requires.at c.index-list-at.is c.deref.ensures in
+    set_within c.order.new.self c.args.place _ (stays_at c.add_node.new.graph c.order.new.self c.args.place _ c.in_ok-order-in-Some.ensures.ok.nodes (this_place c.args.task.now c.args.graph.now c.args.place c.args.list.now c.args.at _ c.requires.place c.requires.back at c.add_node.new.graph c.in_ok-added.added c.requires.works c.in_ok-added.ensures.ok))
+
+pub returns-in_ok-order-in-Some-clause-back : goal.returns-in_ok-order-in-Some-clause-back
+returns-in_ok-order-in-Some-clause-back c =
+    let at = item c.args.list.now c.args.at c.index-list-at.result _ c.requires.at c.index-list-at.is c.deref.ensures in
+    still_back c.args.task.now c.args.graph.now c.order.new.self c.args.place c.args.list.now c.requires.place c.requires.back (stays_at c.add_node.new.graph c.order.new.self c.args.place _ c.in_ok-order-in-Some.ensures.ok.nodes (this_place c.args.task.now c.args.graph.now c.args.place c.args.list.now c.args.at _ c.requires.place c.requires.back at c.add_node.new.graph c.in_ok-added.added c.requires.works c.in_ok-added.ensures.ok))
+
+pub returns-in-None-clause-place : goal.returns-in-None-clause-place
+returns-in-None-clause-place c =
+    let at = item c.args.list.now c.args.at c.index-list-at.result _ c.requires.at c.index-list-at.is c.deref.ensures in
+    set_within c.add_node.new.graph c.args.place _ (this_place c.args.task.now c.args.graph.now c.args.place c.args.list.now c.args.at _ c.requires.place c.requires.back at c.add_node.new.graph c.in_ok-added.added c.requires.works c.in_ok-added.ensures.ok)
+
+pub returns-in-None-clause-back : goal.returns-in-None-clause-back
+returns-in-None-clause-back c =
+    let at = item c.args.list.now c.args.at c.index-list-at.result _ c.requires.at c.index-list-at.is c.deref.ensures in
+    still_back c.args.task.now c.args.graph.now c.add_node.new.graph c.args.place c.args.list.now c.requires.place c.requires.back (this_place c.args.task.now c.args.graph.now c.args.place c.args.list.now c.args.at _ c.requires.place c.requires.back at c.add_node.new.graph c.in_ok-added.added c.requires.works c.in_ok-added.ensures.ok)
+
+pub returns-in_ok-order-in-Some-clause-works : goal.returns-in_ok-order-in-Some-clause-works
+returns-in_ok-order-in-Some-clause-works c =
+    let at = item c.args.list.now c.args.at c.index-list-at.result _ c.requires.at c.index-list-at.is c.deref.ensures in
+    this_ordered c.args.task.now c.args.graph.now c.args.place c.args.list.now c.args.at _ c.requires.place c.requires.back at c.add_node.new.graph c.in_ok-added.added c.requires.works c.in_ok-added.ensures.ok c.in-Some.before _ c.in_ok-added.ensures.graph (sym c.number_of.ensures ∙ c.in-Some.is) c.in_ok-order-in-Some.ensures.ok
+
+pub returns-in-None-clause-works : goal.returns-in-None-clause-works
+returns-in-None-clause-works c =
+    let at = item c.args.list.now c.args.at c.index-list-at.result _ c.requires.at c.index-list-at.is c.deref.ensures in
+    this_full c.args.task.now c.args.graph.now c.args.place c.args.list.now c.args.at _ c.requires.place c.requires.back at c.add_node.new.graph c.in_ok-added.added c.requires.works c.in_ok-added.ensures.ok (sym c.number_of.ensures ∙ c.in-None.is)

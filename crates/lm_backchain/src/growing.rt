@@ -1,0 +1,137 @@
+// The worklist: nodes are taken back in turn, the oldest first.
+ghost use Rattle.std.specs.Prelude.{◌≡◌, ◌+◌, ◌<◌, ◌++◌, ◌∷◌, [], List, length, take, slice_get, Some, IfOk, OnOk};
+ghost use Rattle.sas_task.specs.Runs.{start_of};
+ghost use Rattle.sas_task.specs.declared.contents.CostKind.TheVariants.{One};
+ghost use Rattle.sas_task.specs.declared.contents.Fact.{Fact as TheFact};
+ghost use Rattle.relaxed_task.specs.Relaxations.{IsRelaxed};
+ghost use Rattle.lm_graph.specs.Nodes.{sets_of};
+ghost use Rattle.lm_backchain.specs.Growth.{HasGoals, IsTakenBackAt, Works, number_in};
+
+use crate::nodes::add_node;
+use crate::taking_back::taken_back;
+use h_add::Add;
+use lama_num::{NoMemory, Seq};
+use lm_graph::{Added, Graph, Order};
+use sas_task::{Fact, Task};
+use std::alloc::{AllocError, Global};
+
+fn add_goal(task: &Task, graph: &mut Graph, fact: Fact) -> Result<(), NoMemory>
+    ensures { OnOk result ((goals : List TheFact) → HasGoals task.now goals graph.old →
+        HasGoals task.now (goals ++ fact ∷ []) graph.new) }
+{
+    let _ = add_node(task, graph, &[fact])?;
+    Ok(())
+}
+
+/// Adds the goal facts.
+pub fn add_goals(task: &Task, graph: &mut Graph) -> Result<(), NoMemory>
+    requires { HasGoals task.now [] graph.old }
+    ensures { OnOk result (Works task.now graph.new 0 []) }
+{
+    for fact in task.parts().goal.as_slice() {
+        add_goal(task, graph, *fact)?;
+    }
+    Ok(())
+}
+
+fn number_of(added: Added) -> Option<u32>
+    ensures { result ≡ number_in added }
+{
+    match added {
+        Added::New(number) => Some(number),
+        Added::Known(number) => Some(number),
+        Added::Full => None,
+    }
+}
+
+// Adds a node that another, at a place, is taken back to.
+fn add_before(
+    task: &Task,
+    graph: &mut Graph,
+    place: u32,
+    list: &[Seq<Fact>],
+    at: usize,
+) -> Result<(), NoMemory>
+    requires place { place < length graph.old.nodes }
+    requires back { IsTakenBackAt task.now graph.old place list.now }
+    requires at { at < length list.now }
+    requires works { Works task.now graph.old place (take at list.now) }
+    ensures works { OnOk result (Works task.now graph.new place (take (at + 1) list.now)) }
+    ensures place { OnOk result (place < length graph.new.nodes) }
+    ensures back { OnOk result (IsTakenBackAt task.now graph.new place list.now) }
+{
+    let added = add_node(task, graph, &list[at])?;
+    match number_of(added) {
+        Some(before) => {
+            graph.order(before, place, Order::GreedyNecessary)?;
+            Ok(())
+        }
+        None => Ok(()),
+    }
+}
+
+fn add_list(task: &Task, graph: &mut Graph, place: u32, list: &[Seq<Fact>]) -> Result<(), NoMemory>
+    requires place { place < length graph.old.nodes }
+    requires back { IsTakenBackAt task.now graph.old place list.now }
+    requires works { Works task.now graph.old place [] }
+    ensures works { OnOk result (Works task.now graph.new (place + 1) []) }
+    ensures place { OnOk result (place < length graph.new.nodes) }
+{
+    for at in 0..list.len() {
+        add_before(task, graph, place, list, at)?;
+    }
+    Ok(())
+}
+
+/// The facts of a node.
+pub fn facts_at(alloc: Global, graph: &Graph, place: u32) -> Result<Vec<Fact>, AllocError>
+    requires { place < length graph.now.nodes }
+    ensures { IfOk result (λ facts. slice_get (sets_of graph.now.nodes) place ≡ Some facts.items) }
+{
+    let node = &graph.nodes()[place as usize];
+    Vec::from_slice(alloc, &node.facts)
+}
+
+fn take_back(
+    alloc: Global,
+    task: &Task,
+    start: &[u32],
+    add: &mut Add,
+    graph: &mut Graph,
+    place: u32,
+) -> Result<(), NoMemory>
+    requires place { place < length graph.old.nodes }
+    requires start { start.now ≡ start_of task.now }
+    requires add { IsRelaxed task.now One add.old.relaxed }
+    requires works { Works task.now graph.old place [] }
+    ensures works { OnOk result (Works task.now graph.new (place + 1) []) }
+    ensures place { OnOk result (place < length graph.new.nodes) }
+    ensures add { add.new.relaxed ≡ add.old.relaxed }
+{
+    let node = facts_at(alloc, graph, place)?;
+    let list = taken_back(alloc, task, start, add, &node)?;
+    add_list(task, graph, place, &list)?;
+    Ok(())
+}
+
+/// Takes the nodes back in turn, those that come in as well.
+pub fn grow(
+    alloc: Global,
+    task: &Task,
+    start: &[u32],
+    add: &mut Add,
+    graph: &mut Graph,
+) -> Result<(), NoMemory>
+    requires start { start.now ≡ start_of task.now }
+    requires add { IsRelaxed task.now One add.old.relaxed }
+    requires works { Works task.now graph.old 0 [] }
+    ensures works { OnOk result (Works task.now graph.new (length graph.new.nodes) []) }
+    ensures add { add.new.relaxed ≡ add.old.relaxed }
+{
+    let mut place: u32 = 0;
+    'places: while (place as usize) < graph.nodes().len() {
+        take_back(alloc, task, start, add, graph, place)?;
+        place += 1;
+    }
+    Ok(())
+}
