@@ -1,2 +1,12 @@
 pub mod Delivered
+pub mod Fitting
+pub mod Grown
+pub mod LineNames
+pub mod Queues
 pub mod Ranges
+pub mod Reading
+pub mod SameFacts
+pub mod Says
+pub mod Sections
+pub mod Spaced
+pub mod TextBack

@@ -1,1 +1,4 @@
 pub mod Delivery
+pub mod Printed
+pub mod ReadBack
+pub mod Waiting
