@@ -1,6 +1,6 @@
-// Additive costs that were worked by hand: those of all facts, the goal's value, and 1 where the state
-// is dead.
-use crate::answers::{NEVER, answers, answers_without, sizes};
+// Additive costs that were worked by hand: those of all facts, the goal's value, 1 where the state
+// is dead, and the goal's value alone.
+use crate::answers::{NEVER, answers, answers_without, order, sizes};
 use relaxation_tasks::moves;
 use sas_task::{CostKind, check};
 use std::test::Fail;
@@ -15,7 +15,10 @@ fn moves_that_cost(rt: HostRuntime) -> Result<(), Fail> {
     let worked = [0, NEVER, NEVER, NEVER, NEVER, 1, 0, 4, 7, NEVER, 7, 0];
     assert!(rt; all.as_slice() == worked.as_slice());
     let one = answers(rt.alloc(), &task, CostKind::One, &[1])?;
-    assert!(rt; one.as_slice() == [1, 0, 1, NEVER, 1, 0].as_slice());
+    assert!(rt; one.as_slice() == [1, 0, 1, NEVER, 1, 0, 1].as_slice());
+    let order = order(rt.alloc(), &task, &[0])?;
+    let supporters = order.as_slice();
+    assert!(rt; supporters == [0, 2].as_slice() || supporters == [0, 3].as_slice());
     let sizes = sizes(rt.alloc(), &task)?;
     assert!(rt; sizes.0 == 4 && sizes.1 == 1);
     Ok(())
@@ -28,7 +31,7 @@ fn costs_that_reach_the_largest(rt: HostRuntime) -> Result<(), Fail> {
     };
     let all = answers(rt.alloc(), &task, CostKind::PlusOne, &[0])?;
     let most = 1_000_000_000;
-    assert!(rt; all.as_slice() == [0, most, most, NEVER, most, 0].as_slice());
+    assert!(rt; all.as_slice() == [0, most, most, NEVER, most, 0, most].as_slice());
     Ok(())
 }
 
@@ -36,9 +39,9 @@ fn costs_that_reach_the_largest(rt: HostRuntime) -> Result<(), Fail> {
 fn a_door_that_must_be_shut_again(rt: HostRuntime) -> Result<(), Fail> {
     let task = task(rt.alloc(), door())?;
     let open = answers(rt.alloc(), &task, CostKind::Normal, &[1, 0, 1])?;
-    assert!(rt; open.as_slice() == [1, 0, 0, 1, 0, 0, 1, 0].as_slice());
+    assert!(rt; open.as_slice() == [1, 0, 0, 1, 0, 0, 1, 0, 1].as_slice());
     let shut = answers(rt.alloc(), &task, CostKind::Normal, &[0, 0, 0])?;
-    let worked = [0, NEVER, 0, NEVER, 0, NEVER, NEVER, 1];
+    let worked = [0, NEVER, 0, NEVER, 0, NEVER, NEVER, 1, NEVER];
     assert!(rt; shut.as_slice() == worked.as_slice());
     Ok(())
 }

@@ -1,5 +1,5 @@
-// What an evaluator answers, as plain numbers, by functions that promise nothing, so that the proof of
-// a test has nothing to carry.
+// What an evaluator answers, as plain numbers, by functions that promise nothing, so that the proof
+// of a test has nothing to carry.
 use h_add::Add;
 use lama_num::{Estimate, NoMemory};
 use sas_task::{CostKind, Fact, Task};
@@ -43,7 +43,7 @@ fn push_all(answers: &mut Vec<u32>, add: &Add, task: &Task) -> Result<(), AllocE
     Ok(())
 }
 
-/// The answers of a state.
+/// The answers of a state, and after these the goal's value alone.
 pub fn answers(
     alloc: Global,
     task: &Task,
@@ -54,7 +54,19 @@ pub fn answers(
     let mut answers = Vec::new(alloc);
     add.evaluate(state);
     push_all(&mut answers, &add, task)?;
+    answers.push(plain(add.evaluate_goal(state)))?;
     Ok(answers)
+}
+
+/// The best supporters of what is reached from a state, in order.
+pub fn order(alloc: Global, task: &Task, state: &[u32]) -> Result<Vec<u32>, NoMemory> {
+    let mut add = Add::new(alloc, task, CostKind::Normal)?;
+    let mut order = Vec::new(alloc);
+    add.evaluate(state);
+    for place in add.order() {
+        order.push(*place)?;
+    }
+    Ok(order)
 }
 
 /// The answers of a state without some facts, and after these those with all facts.

@@ -1,4 +1,6 @@
 pub mod Laws
+pub mod LinkNumbers
 pub mod Links
 pub mod Occurrences
+pub mod OneMeaning
 pub mod Queues

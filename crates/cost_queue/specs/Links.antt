@@ -65,5 +65,10 @@ pub record AreHeaped (waiting : List (Option ℕ)) (heap : List Item) (len capac
 
 -- what is kept for a queue
 pub record IsQueue (waiting next heads : List (Option ℕ)) (start end : ℕ) (heap : List Item) (len capacity : ℕ) : Type 0 where
+  pub few : length waiting ≤ 4294967295
   pub low : AreChained waiting next heads start end
   pub high : AreHeaped waiting heap len capacity
+
+-- the prices of the numbers for which a queue is kept
+abbrev pub Waiting : List (Option ℕ) → List (Option ℕ) → ℕ → ℕ → List Item → ℕ → ℕ → Type 0
+Waiting next heads start end heap len capacity = (waiting : List (Option ℕ)) × ∥ IsQueue waiting next heads start end heap len capacity ∥₁

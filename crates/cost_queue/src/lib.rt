@@ -3,6 +3,7 @@
 
 mod chains;
 mod entry;
+mod link;
 mod queue;
 
 pub use entry::Entry;

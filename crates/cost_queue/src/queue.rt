@@ -1,9 +1,14 @@
 // The queue: numbers under low prices in chains, the others in a heap.
-ghost use Rattle.std.specs.Prelude.{◌≡◌, ◌<◌, ◌≤◌, ℕ, length, replicate, None, Some, slice_set, IfOk, MatchOption};
+ghost use Rattle.std.specs.Prelude.{◌≡◌, ◌<◌, ◌≤◌, ℕ, length, replicate, None, Some, slice_set};
+ghost use Rattle.std.specs.Prelude.{IfOk, MatchOption};
+ghost use Rattle.std.specs.BinaryHeap.{heap_items, heap_len, heap_capacity};
+ghost use Rattle.cost_queue.specs.Links.{Waiting};
+ghost use Rattle.cost_queue.specs.OneMeaning.{waiting_prop};
 ghost use Rattle.cost_queue.specs.Queues.{price_of, IsTaken, IsPopped, IsIdle};
 
-use crate::chains::{LOW, first_low, nothing};
+use crate::chains::{LOW, first_low, nothing, raise};
 use crate::entry::Entry;
+use crate::link::Link;
 use std::alloc::{AllocError, Global};
 use std::cmp::Reverse;
 use std::collections::BinaryHeap;
@@ -15,28 +20,27 @@ use std::marker::Model;
 /// constant time, where prices never fall below that of the last number taken out.
 #[derive(Drop)]
 pub struct CostQueue {
-    prices: Vec<Option<u32>>,
     /// The next in the chain of a number.
-    next: Vec<Option<u32>>,
+    next: Vec<Link>,
     /// The first number under each low price.
-    heads: Vec<Option<u32>>,
+    heads: Vec<Link>,
     /// The chains before this price are empty.
     start: usize,
     /// The chains from this price on are empty.
     end: usize,
     heap: BinaryHeap<Reverse<(u32, u32)>>,
+    /// The price of each number that waits: what chains and heap stand for.
+    ghost prices: { Waiting next.items heads.items start end (heap_items heap) (heap_len heap)
+        (heap_capacity heap) } by { waiting_prop next.items heads.items start end
+            (heap_items heap) (heap_len heap) (heap_capacity heap) },
 }
 
 impl Model for CostQueue {
     ghost use Rattle.std.specs.Prelude.{List, Option, ℕ};
-    ghost use Rattle.std.specs.BinaryHeap.{heap_items, heap_len, heap_capacity};
-    ghost use Rattle.cost_queue.specs.Links.{IsQueue};
 
     ghost Value = { List (Option ℕ) };
 
-    ghost view = { λ q. q.prices.items };
-
-    ghost invariant = { λ q. IsQueue q.prices.items q.next.items q.heads.items q.start q.end (heap_items q.heap) (heap_len q.heap) (heap_capacity q.heap) };
+    ghost view = { λ q. q.prices.0 };
 }
 
 impl CostQueue {
@@ -44,12 +48,14 @@ impl CostQueue {
     pub fn new(alloc: Global, numbers: usize) -> Result<CostQueue, AllocError>
         ensures { IfOk result (λ q. q ≡ replicate numbers None) }
     {
-        let prices = nothing(alloc, numbers)?;
+        // Links have 32 bits, and one of them says that there is no number.
+        if numbers >= 4_294_967_296 {
+            return Err(AllocError);
+        }
         let next = nothing(alloc, numbers)?;
         let heads = nothing(alloc, LOW)?;
         let heap = BinaryHeap::with_capacity(alloc, numbers)?;
         Ok(CostQueue {
-            prices,
             next,
             heads,
             start: LOW,
@@ -58,6 +64,7 @@ impl CostQueue {
         })
     }
 
+    #[inline]
     fn push_low(&mut self, number: u32, price: u32)
         requires there { number < length self.old }
         requires new { price_of self.old number ≡ None }
@@ -66,12 +73,12 @@ impl CostQueue {
     {
         let low = price as usize;
         self.next[number as usize] = self.heads[low];
-        self.heads[low] = Some(number);
+        self.heads[low] = Link::to(number);
         self.start = self.start.min(low);
-        self.end = self.end.max(low + 1);
-        self.prices[number as usize] = Some(price);
+        raise(&mut self.end, low);
     }
 
+    #[inline(never)]
     fn push_high(&mut self, number: u32, price: u32)
         requires there { number < length self.old }
         requires new { price_of self.old number ≡ None }
@@ -79,12 +86,13 @@ impl CostQueue {
         ensures { self.new ≡ slice_set self.old number (Some price) }
     {
         match self.heap.push(Reverse((price, number))) {
-            Ok(()) => self.prices[number as usize] = Some(price),
+            Ok(()) => {}
             Err(_) => unreachable!(),
         }
     }
 
     /// Adds a number that doesn't wait.
+    #[inline]
     pub fn push(&mut self, number: u32, price: u32)
         requires there { number < length self.old }
         requires new { price_of self.old number ≡ None }
@@ -97,34 +105,35 @@ impl CostQueue {
         }
     }
 
+    #[inline]
     fn pop_low(&mut self) -> Option<Entry>
-        ensures { MatchOption result ((self.new ≡ self.old) × ((number price : ℕ) → price_of self.old number ≡ Some price → 16384 ≤ price)) (λ entry. IsTaken self.old self.new entry) }
+        ensures { MatchOption result ((self.new ≡ self.old) ×
+            ((number price : ℕ) → price_of self.old number ≡ Some price →
+            16384 ≤ price)) (λ entry. IsTaken self.old self.new entry) }
     {
         match first_low(&self.heads, self.start, self.end) {
             Some(entry) => {
                 self.heads[entry.price as usize] = self.next[entry.number as usize];
                 self.start = entry.price as usize;
-                self.prices[entry.number as usize] = None;
                 Some(entry)
             }
             None => None,
         }
     }
 
+    #[inline(never)]
     fn pop_high(&mut self) -> Option<Entry>
         requires { (number price : ℕ) → price_of self.old number ≡ Some price → 16384 ≤ price }
         ensures { IsPopped self.old self.new result }
     {
-        match self.heap.pop() {
-            Some(Reverse((price, number))) => {
-                self.prices[number as usize] = None;
-                Some(Entry { price, number })
-            }
-            None => None,
-        }
+        let Some(Reverse((price, number))) = self.heap.pop() else {
+            return None;
+        };
+        Some(Entry { price, number })
     }
 
     /// Takes out a number that waits under the least price.
+    #[inline]
     pub fn pop(&mut self) -> Option<Entry>
         ensures { IsPopped self.old self.new result }
     {

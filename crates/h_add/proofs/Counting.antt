@@ -19,7 +19,7 @@ use Rattle.h_add.specs.declared.network.Open.{Open}
 use Rattle.h_add.specs.Settlements.{Settlement, cost_at, is_settled, is_reached, is_left_out, open_at, less_open, counted, offered}
 use Rattle.h_add.specs.UnderWay.{unreached, paid, IsCounted, IsWaiting, IsWanted, HasSettled, IsUnderWay, IsOut, HasCounted}
 use Rattle.h_add.specs.Values.{estimate_of, value_at}
-use Rattle.h_add.proofs.Reaching.{finite_is, reached_small, unsettled_not, reached_same, unreached_same, paid_same, all_reached, price_paid, large_cost}
+use Rattle.h_add.proofs.Reaching.{finite_is, reached_small, unsettled_not, reached_same, unreached_same, paid_same, all_reached, price_paid, large_cost, itself, and_true}
 
 -- What one unary operator that counts a fact changes.
 record Steps (unaries : List Unary) (level place : ℕ) (t now : Settlement) : Type 0 where
@@ -120,11 +120,8 @@ steps_way unaries level place owed t now lt s way = record {
         by_unary None at = missing at
         by_unary (Some u) at =
             let count = (way.each place u at).count in
-            let one : one_if (nat_eq place place) ≡ 1 = ap one_if (self place) in
+            let one : one_if (nat_eq place place) ≡ 1 = ap one_if (itself place) in
             omega (arith, count, one, none)
-          where
-            self : (n : ℕ) → nat_eq n n ≡ true
-            self n = grind (arith, nat_tests)
 
     waits : (other cost : ℕ) → (price_of t.waiting other ≡ Some cost) ⊎ ((other ≡ place) × IsWaiting now level other cost) → ((other ≡ place) × (nat_eq other place ≡ true)) ⊎ ((other ≢ place) × (nat_eq other place ≡ false)) → IsWaiting now level other cost
     waits other cost (inr is) at = is.1
@@ -194,17 +191,13 @@ no_better unaries level place owed t fact lt within test kept way = by_test (is_
     large : (m n : ℕ) → nat_lt m n ≡ false → n ≤ m
     large m n h = grind (arith, nat_tests, h)
 
-    and_true : (b : Bool) → (b && true) ≡ false → b ≡ false
-    and_true true h = h
-    and_true false h = refl
-
     by_cost : (b : Bool) → nat_le (cost_at t fact) 1000000000 ≡ b → is_settled t fact ≡ true → cost_at t fact ≤ (open_at (counted t place level) place).sum
     by_cost true small is = let reached : is_reached t fact ≡ true = rw (is, small) refl in let le = way.low fact reached in let above = sum_above unaries level place owed t lt way in omega arith
     by_cost false big is = let out : is_left_out t fact ≡ true = rw (is, big) refl in let k : true ≡ false = sym out ∙ kept in cc
 
     by_test : (b : Bool) → is_settled t fact ≡ b → (nat_lt (open_at (counted t place level) place).sum (get_or t.costs fact 0) && not b) ≡ false → cost_at t fact ≤ (open_at (counted t place level) place).sum
     by_test true is test = by_cost (nat_le (cost_at t fact) 1000000000) refl is
-    by_test false is test = let le = large (open_at (counted t place level) place).sum (get_or t.costs fact 0) (and_true (nat_lt (open_at (counted t place level) place).sum (get_or t.costs fact 0)) test) in let same = cost_is in omega arith
+    by_test false is test = let le = large (open_at (counted t place level) place).sum (get_or t.costs fact 0) (sym (and_true (nat_lt (open_at (counted t place level) place).sum (get_or t.costs fact 0))) ∙ test) in let same = cost_is in omega arith
 
 -- the state after an improvement
 abbrev pub improved : Settlement → ℕ → ℕ → ℕ → Settlement
@@ -275,16 +268,13 @@ sum_is_price unaries level place owed t u lt at none way =
     let is = open_counted unaries level place owed t lt way in
     let count : (open_at (counted t place level) place).count ≡ (open_at t place).count - 1 = ap (λ (o : Open). o.count) is in
     let sum : (open_at (counted t place level) place).sum ≡ min ((open_at t place).sum + level) 1000000000 = ap (λ (o : Open). o.sum) is in
-    let one : one_if (nat_eq place place) ≡ 1 = ap one_if (self place) in
+    let one : one_if (nat_eq place place) ≡ 1 = ap one_if (itself place) in
     let count_was = was.count in
     let sum_was = was.sum in
     let all : unreached (is_reached t) u.conds ≡ 0 = omega (arith, count, count_was, one, none) in
     let no_more : occurrences place owed ≡ 0 = omega (arith, count, count_was, one, none) in
-    let times : (one_if (nat_eq place place) + occurrences place owed) * level ≡ level = ap (λ (b : Bool). (one_if b + occurrences place owed) * level) (self place) ∙ (ap (λ (n : ℕ). (1 + n) * level) no_more ∙ omega arith) in
+    let times : (one_if (nat_eq place place) + occurrences place owed) * level ≡ level = ap (λ (b : Bool). (one_if b + occurrences place owed) * level) (itself place) ∙ (ap (λ (n : ℕ). (1 + n) * level) no_more ∙ omega arith) in
     price_paid t u (all_reached (is_reached t) u.conds all) ∙ ap (λ (n : ℕ). Finite n) (omega (arith, sum, sum_was, times))
-  where
-    self : (n : ℕ) → nat_eq n n ≡ true
-    self n = grind (arith, nat_tests)
 
 -- an improvement is attained
 pub better_attained : (unaries : List Unary) (level place : ℕ) (owed : List ℕ) (t : Settlement) (u : Unary) (sum : ℕ) → place < length unaries → u.gives < length t.costs → slice_get unaries place ≡ Some u →
@@ -352,11 +342,8 @@ counts_some unaries level place owed t lt way =
     let there = unary_there unaries place lt in
     let was = way.each place there.unary there.at in
     let count = was.count in
-    let one : one_if (nat_eq place place) ≡ 1 = ap one_if (self place) in
+    let one : one_if (nat_eq place place) ≡ 1 = ap one_if (itself place) in
     (omega (arith, count, one), was.small)
-  where
-    self : (n : ℕ) → nat_eq n n ≡ true
-    self n = grind (arith, nat_tests)
 
 pub counts_idle : (unaries : List Unary) (level place : ℕ) (owed : List ℕ) (t : Settlement) → place < length unaries → IsUnderWay unaries level (place ∷ owed) t → price_of t.waiting place ≡ None
 counts_idle unaries level place owed t lt way = by_price (price_of t.waiting place) refl

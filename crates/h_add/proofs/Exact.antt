@@ -21,7 +21,7 @@ use Rattle.h_add.specs.Orders.{chosen, given_by, are_places, IsOrder}
 use Rattle.h_add.specs.Settlements.{Settlement, cost_at, is_settled, is_reached, is_left_out, open_at}
 use Rattle.h_add.specs.UnderWay.{unreached, paid, IsCounted, IsWanted, HasSettled, IsUnderWay, IsSettling, IsFrom}
 use Rattle.h_add.specs.Values.{estimate_of, value_at}
-use Rattle.h_add.proofs.Reaching.{finite_is, infinite_is, large_cost, is_small, reached_small, all_reached, some_unreached, price_paid, total_paid}
+use Rattle.h_add.proofs.Reaching.{finite_is, infinite_is, large_cost, is_small, reached_small, all_reached, some_unreached, price_paid, total_paid, itself, and_true}
 
 -- What is reached costs what it does so far, what is left out is infinite, and all else costs so much.
 abbrev bound : Settlement → Estimate → ℕ → Estimate
@@ -217,14 +217,11 @@ all_best unaries level t (i ∷ order) each way =
     let best : IsBest unaries (value_at t.costs) here.unary = record { place = i; at = here.at; finite = ap is_finite value; pays = asks.1 ∙ (ap (λ (n : ℕ). Finite n) (sym here.pays) ∙ sym value) } in
     (rw lt rest.0, rw here.at (best, rest.1))
   where
-    self : (n : ℕ) → nat_eq n n ≡ true
-    self n = grind (arith, nat_tests)
-
     below : (m n : ℕ) → m < n → nat_lt m n ≡ true
     below m n h = grind (arith, nat_tests)
 
     among : (i : ℕ) → is_among (i ∷ order) i ≡ true
-    among i = rw (self i) refl
+    among i = rw (itself i) refl
 
     later : (place : ℕ) → is_among order place ≡ true → is_among (i ∷ order) place ≡ true
     later place is = by_test (nat_eq place i)
@@ -243,12 +240,8 @@ order_of unaries start t idle s from =
       given = λ fact finite. given fact finite (is_reached t fact) refl;
     }
   where
-    and_true : (b : Bool) → (b && true) ≡ true → b ≡ true
-    and_true true h = refl
-    and_true false h = h
-
     given : (fact : ℕ) → is_finite (value_at t.costs fact) ≡ true → (b : Bool) → is_reached t fact ≡ b → is_among (start ++ given_by (chosen unaries t.order)) fact ≡ true
-    given fact finite true is = and_true (is_among (start ++ given_by (chosen unaries t.order)) fact) (sym (from.reached fact) ∙ is)
+    given fact finite true is = sym (and_true (is_among (start ++ given_by (chosen unaries t.order)) fact)) ∙ (sym (from.reached fact) ∙ is)
     given fact finite false is = let k : false ≡ true = sym (ap is_finite (idle_infinite unaries t fact idle is s)) ∙ finite in absurd cc
 
 pub places_of : (unaries : List Unary) (t : Settlement) → IsSettling unaries t → are_places (length unaries) t.order ≡ true

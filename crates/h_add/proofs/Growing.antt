@@ -13,6 +13,7 @@ use Rattle.relaxed_task.specs.Numbers.{is_below, is_unary_below}
 use Rattle.relaxed_task.specs.Elements.{places, join}
 use Rattle.relaxed_task.specs.NumberLaws.{weaker}
 use Rattle.lama_num.specs.declared.memory.NoMemory.{NoMemory}
+use Rattle.h_add.proofs.Reaching.{itself}
 use Rattle.h_add.specs.Listings.{Listed}
 use Rattle.h_add.specs.Networks.{are_within, are_below, needed, IsNeeds, IsNeededBy, AreFree}
 
@@ -181,9 +182,6 @@ unaries_below n m unaries le all =
 pub free_of_needs : (unaries : List Unary) (always : ℕ) (row : List ℕ) → list_all (is_unary_below always) unaries ≡ true → IsNeededBy unaries always always row → AreFree unaries row
 free_of_needs unaries always row below needs i u at = needs i u at ∙ by_conds u.conds (both (list_all (is_below always) u.conds) (is_below always u.gives) (list_all_get (is_unary_below always) unaries i u below at)).0
   where
-    self : (n : ℕ) → nat_eq n n ≡ true
-    self n = grind (arith, nat_tests)
-
     none_above : (conds : List ℕ) → list_all (is_below always) conds ≡ true → occurrences always conds ≡ 0
     none_above [] all = refl
     none_above (c ∷ conds) all =
@@ -194,7 +192,7 @@ free_of_needs unaries always row below needs i u at = needs i u at ∙ by_conds 
         omega arith
 
     by_conds : (conds : List ℕ) → list_all (is_below always) conds ≡ true → occurrences always (needed always conds) ≡ 1 - length conds
-    by_conds [] all = ap (λ (b : Bool). one_if b + 0) (self always)
+    by_conds [] all = ap (λ (b : Bool). one_if b + 0) (itself always)
     by_conds (c ∷ conds) all = let none = none_above (c ∷ conds) all in omega arith
 
 pub long_lists : (n : ℕ) → length {A = List ℕ} (replicate n []) ≡ n

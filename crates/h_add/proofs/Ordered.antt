@@ -21,7 +21,7 @@ use Rattle.h_add.specs.Orders.{chosen, given_by, are_places, IsOrder}
 use Rattle.h_add.specs.Settlements.{Settlement, cost_at, is_settled, is_reached, is_left_out, open_at}
 use Rattle.h_add.specs.UnderWay.{unreached, IsUnderWay, IsOut, IsFrom, HasCounted}
 use Rattle.h_add.specs.Values.{estimate_of, value_at}
-use Rattle.h_add.proofs.Reaching.{reached_small, unsettled_not, reached_same, all_reached}
+use Rattle.h_add.proofs.Reaching.{reached_small, unsettled_not, reached_same, all_reached, and_true}
 use Rattle.h_add.proofs.Settled.{after, Reaches, reaches, Pays, taken_pays}
 
 -- one more in an order
@@ -86,10 +86,6 @@ from_given unaries start without had level t waiting entry u at within in_flags 
 
     not_out : is_among without u.gives ≡ false
     not_out = sym (from.out u.gives) ∙ (unsettled_not t u.gives new).1
-
-    and_true : (b : Bool) → (b && true) ≡ b
-    and_true true = refl
-    and_true false = refl
 
     fresh : is_among (had ++ given_by (chosen unaries t.order)) u.gives ≡ false
     fresh =

@@ -21,7 +21,7 @@ use Rattle.h_add.specs.Settlements.{Settlement, cost_at, is_settled, is_reached,
 use Rattle.h_add.specs.UnderWay.{unreached, paid, IsCounted, IsWaiting, IsUnderWay, IsFresh, IsFrom, HasCounted}
 use Rattle.h_add.specs.Values.{estimate_of, value_at}
 use Rattle.h_add.proofs.Ordered.{from_counted}
-use Rattle.h_add.proofs.Reaching.{infinite_is, small_cost, reached_small, unsettled_not}
+use Rattle.h_add.proofs.Reaching.{infinite_is, small_cost, reached_small, unsettled_not, or_true, or_false, and_true}
 use Rattle.h_add.proofs.Settled.{after, Reaches, reaches, settle_way}
 use Rattle.h_add.proofs.Stepping.{needed_same}
 
@@ -79,16 +79,12 @@ fresh_way unaries t row free f = record {
 
 pub fresh_from : (unaries : List Unary) (t : Settlement) → IsFresh unaries t → (start without : List ℕ) → ((fact : ℕ) → is_settled t fact ≡ is_among without fact) → IsFrom unaries start without [] t
 fresh_from unaries t f start without flags = record {
-  out = λ fact. (let large = not_small (cost_at t fact) (f.costs fact) in ap (λ (b : Bool). is_settled t fact && not b) large ∙ (always (is_settled t fact) ∙ flags fact));
+  out = λ fact. (let large = not_small (cost_at t fact) (f.costs fact) in ap (λ (b : Bool). is_settled t fact && not b) large ∙ (and_true (is_settled t fact) ∙ flags fact));
   attained = λ fact. (0, rw (infinite_is (cost_at t fact) (f.costs fact)) (at_most_infinite (add_round unaries start without 0 fact)));
   reached = λ fact. none_reached unaries t f fact ∙ ap (λ (order : List ℕ). is_among ([] ++ given_by (chosen unaries order)) fact && not (is_among without fact)) (sym f.order);
   first = λ fact among stays. (let k : false ≡ true = among in absurd cc);
   in_order = subst (λ (order : List ℕ). IsInOrder [] (chosen unaries order)) (sym f.order) tt;
 }
-  where
-    always : (b : Bool) → (b && true) ≡ b
-    always true = refl
-    always false = refl
 
 -- a fact that is there at first is settled at no cost
 pub there_way : (unaries : List Unary) (facts : ℕ) (t now : Settlement) (fact : ℕ) (row : List ℕ) → facts ≡ length t.costs → length t.settled ≡ length t.costs → fact < length t.costs → is_settled t fact ≡ false → now ≡ settled_at t fact 0 t.order → IsNeededBy unaries facts fact row → IsUnderWay unaries 0 [] t →
@@ -100,12 +96,7 @@ there_way unaries facts t now fact row facts_is settled_long within new is needs
 
 -- what is there, and one fact more
 or_more : (had : List ℕ) (fact other : ℕ) → is_among (had ++ fact ∷ []) other ≡ (is_among had other || nat_eq other fact)
-or_more had fact other = list_any-append (nat_eq other) had (fact ∷ []) ∙ or_false (is_among had other) (nat_eq other fact)
-  where
-    or_false : (a b : Bool) → (a || (b || false)) ≡ (a || b)
-    or_false true b = refl
-    or_false false true = refl
-    or_false false false = refl
+or_more had fact other = list_any-append (nat_eq other) had (fact ∷ []) ∙ ap (λ (b : Bool). is_among had other || b) (or_false (nat_eq other fact))
 
 no_order : (unaries : List Unary) (had : List ℕ) (t : Settlement) (fact : ℕ) → t.order ≡ [] → is_among (had ++ given_by (chosen unaries t.order)) fact ≡ is_among had fact
 no_order unaries had t fact none = ap (λ (order : List ℕ). is_among (had ++ given_by (chosen unaries order)) fact) none ∙ ap (λ (xs : List ℕ). is_among xs fact) (append-nil had)
@@ -144,27 +135,15 @@ there_from unaries start without had t fact settled_long within new begins none 
         let is : is_reached (after t fact 0 t.waiting t.order) other ≡ true = ap (is_reached (after t fact 0 t.waiting t.order)) here.0 ∙ r.reached in
         let among : is_among (had ++ fact ∷ []) other ≡ true = or_more had fact other ∙ (ap (λ (b : Bool). is_among had other || b) here.1 ∙ or_true (is_among had other)) in
         is ∙ rw (among, kept) refl
-      where
-        or_true : (a : Bool) → (a || true) ≡ true
-        or_true true = refl
-        or_true false = refl
     reached other (inr there) =
-        let among : is_among (had ++ fact ∷ []) other ≡ is_among had other = or_more had fact other ∙ (ap (λ (b : Bool). is_among had other || b) there.1 ∙ or_no (is_among had other)) in
+        let among : is_among (had ++ fact ∷ []) other ≡ is_among had other = or_more had fact other ∙ (ap (λ (b : Bool). is_among had other || b) there.1 ∙ or_false (is_among had other)) in
         r.reached_there other there.0 ∙ (from.reached other ∙ (ap (λ (b : Bool). b && not (is_among without other)) (no_order unaries had t other none) ∙ ap (λ (b : Bool). b && not (is_among without other)) (sym among)))
-      where
-        or_no : (a : Bool) → (a || false) ≡ a
-        or_no true = refl
-        or_no false = refl
 
     first : (other : ℕ) → ((other ≡ fact) × (nat_eq other fact ≡ true)) ⊎ ((other ≢ fact) × (nat_eq other fact ≡ false)) → is_among (had ++ fact ∷ []) other ≡ (is_among had other || nat_eq other fact) → is_among (had ++ fact ∷ []) other ≡ true → is_among without other ≡ false →
         cost_at (after t fact 0 t.waiting t.order) other ≡ 0
     first other (inl here) split among stays = ap (cost_at (after t fact 0 t.waiting t.order)) here.0 ∙ r.cost_is
     first other (inr there) split among stays =
-        r.cost_there other there.0 ∙ from.first other (sym (or_no (is_among had other)) ∙ (ap (λ (b : Bool). is_among had other || b) (sym there.1) ∙ (sym split ∙ among))) stays
-      where
-        or_no : (a : Bool) → (a || false) ≡ a
-        or_no true = refl
-        or_no false = refl
+        r.cost_there other there.0 ∙ from.first other (sym (or_false (is_among had other)) ∙ (ap (λ (b : Bool). is_among had other || b) (sym there.1) ∙ (sym split ∙ among))) stays
 
 -- one that is settled already is there, or left out
 pub old_from : (unaries : List Unary) (start without had : List ℕ) (t : Settlement) (fact : ℕ) → is_settled t fact ≡ true → t.order ≡ [] → IsUnderWay unaries 0 [] t → IsFrom unaries start without had t → IsFrom unaries start without (had ++ fact ∷ []) t
@@ -176,14 +155,6 @@ old_from unaries start without had t fact old none way from = record {
   in_order = subst (λ (order : List ℕ). IsInOrder (had ++ fact ∷ []) (chosen unaries order)) (sym none) tt;
 }
   where
-    or_true : (a : Bool) → (a || true) ≡ true
-    or_true true = refl
-    or_true false = refl
-
-    or_no : (a : Bool) → (a || false) ≡ a
-    or_no true = refl
-    or_no false = refl
-
     by_cost : (a b c : Bool) → a ≡ true → c ≡ (a && not b) → (a && b) ≡ (true && not c)
     by_cost true true c is out = rw out refl
     by_cost true false c is out = rw out refl
@@ -195,7 +166,7 @@ old_from unaries start without had t fact old none way from = record {
         let is : is_settled t other ≡ true = ap (is_settled t) here.0 ∙ old in
         by_cost (is_settled t other) (nat_le (cost_at t other) 1000000000) (is_among without other) is (sym (from.out other)) ∙ ap (λ (b : Bool). b && not (is_among without other)) (sym among)
     reached other (inr there) =
-        let among : is_among (had ++ fact ∷ []) other ≡ is_among had other = or_more had fact other ∙ (ap (λ (b : Bool). is_among had other || b) there.1 ∙ or_no (is_among had other)) in
+        let among : is_among (had ++ fact ∷ []) other ≡ is_among had other = or_more had fact other ∙ (ap (λ (b : Bool). is_among had other || b) there.1 ∙ or_false (is_among had other)) in
         from.reached other ∙ (ap (λ (b : Bool). b && not (is_among without other)) (no_order unaries had t other none) ∙ ap (λ (b : Bool). b && not (is_among without other)) (sym among))
 
     first : (other : ℕ) → ((other ≡ fact) × (nat_eq other fact ≡ true)) ⊎ ((other ≢ fact) × (nat_eq other fact ≡ false)) → is_among (had ++ fact ∷ []) other ≡ true → is_among without other ≡ false → cost_at t other ≡ 0
@@ -204,7 +175,7 @@ old_from unaries start without had t fact old none way from = record {
         let reached_now : is_reached t other ≡ true = by_cost (is_settled t other) (nat_le (cost_at t other) 1000000000) (is_among without other) is (sym (from.out other)) ∙ rw stays refl in
         let low = way.low other reached_now in
         omega arith
-    first other (inr there) among stays = from.first other (sym (or_no (is_among had other)) ∙ (ap (λ (b : Bool). is_among had other || b) (sym there.1) ∙ (sym (or_more had fact other) ∙ among))) stays
+    first other (inr there) among stays = from.first other (sym (or_false (is_among had other)) ∙ (ap (λ (b : Bool). is_among had other || b) (sym there.1) ∙ (sym (or_more had fact other) ∙ among))) stays
 
 -- one more of a list
 pub more_from : (unaries : List Unary) (start without had facts : List ℕ) (old new : Settlement) (k fact : ℕ) → k < length facts → fact ≡ get_or facts k 0 → (IsFrom unaries start without (had ++ take k facts) old → IsFrom unaries start without ((had ++ take k facts) ++ fact ∷ []) new) →
@@ -276,7 +247,3 @@ among_front xs ys fact among = list_any-append (nat_eq fact) xs ys ∙ ap (λ (b
 
 pub among_back : (xs ys : List ℕ) (fact : ℕ) → is_among ys fact ≡ true → is_among (xs ++ ys) fact ≡ true
 among_back xs ys fact among = list_any-append (nat_eq fact) xs ys ∙ (ap (λ (b : Bool). is_among xs fact || b) among ∙ or_true (is_among xs fact))
-  where
-    or_true : (a : Bool) → (a || true) ≡ true
-    or_true true = refl
-    or_true false = refl

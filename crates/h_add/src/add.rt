@@ -27,13 +27,13 @@ use std::marker::Model;
 
 /// The additive estimate of the states of one task.
 ///
-/// `value`, `goal_value`, `is_dead` and `order` speak of the state that was evaluated last. Only `new`
-/// takes memory.
+/// `value`, `goal_value`, `is_dead` and `order` speak of the state that was evaluated last. Only
+/// `new` takes memory.
 ///
-/// The facts of the state are settled first, at no cost, and then one after the other the cheapest of
-/// those that a unary operator with settled conditions gives: the generalized Dijkstra search of Liu,
-/// Koenig and Furcy, "Speeding up the calculation of heuristics for heuristic search-based planning"
-/// (2002).
+/// The facts of the state are settled first, at no cost, and then one after the other the cheapest
+/// of those that a unary operator with settled conditions gives: the generalized Dijkstra search of
+/// Liu, Koenig and Furcy, "Speeding up the calculation of heuristics for heuristic search-based
+/// planning" (2002).
 #[derive(Drop)]
 pub struct Add {
     network: Network,
@@ -46,7 +46,11 @@ impl Model for Add {
 
     ghost Value = { Evaluator };
 
-    ghost view = { λ a. record { relaxed = a.network; costs = a.settling.costs; order = a.settling.order } };
+    ghost view = { λ a. record {
+      relaxed = a.network;
+      costs = a.settling.costs;
+      order = a.settling.order;
+    } };
 
     ghost invariant = { λ a. IsReady a.network a.settling };
 }
@@ -81,26 +85,33 @@ impl Add {
     /// Evaluates a state, which has one value for each variable.
     pub fn evaluate(&mut self, state: &[u32])
         ensures task { self.new.relaxed ≡ self.old.relaxed }
-        ensures costs { (parts : Parts) (kind : TheKind) → IsRelaxed parts kind self.old.relaxed → IsState parts.variables state.now →
+        ensures costs { (parts : Parts) (kind : TheKind) → IsRelaxed parts kind self.old.relaxed →
+            IsState parts.variables state.now →
             IsEvaluated parts kind state.now [] self.new.costs }
-        ensures numbers { (parts : Parts) (kind : TheKind) → IsRelaxed parts kind self.old.relaxed → IsState parts.variables state.now →
+        ensures numbers { (parts : Parts) (kind : TheKind) → IsRelaxed parts kind self.old.relaxed →
+            IsState parts.variables state.now →
             IsEvaluatedByNumber parts kind state.now [] self.new.costs }
-        ensures order { (parts : Parts) (kind : TheKind) → IsRelaxed parts kind self.old.relaxed → IsState parts.variables state.now →
-            IsOrder self.new.relaxed.unaries (start_facts parts state.now) (value_at self.new.costs) self.new.order }
+        ensures order { (parts : Parts) (kind : TheKind) → IsRelaxed parts kind self.old.relaxed →
+            IsState parts.variables state.now →
+            IsOrder self.new.relaxed.unaries (start_facts parts state.now) (value_at self.new.costs)
+            self.new.order }
     {
         self.settling.evaluate(&self.network, state, &[]);
     }
 
-    /// Evaluates a state without some facts: they are neither among those that are reached at first,
-    /// nor does any unary operator give them.
+    /// Evaluates a state without some facts: they are neither among those that are reached at
+    /// first, nor does any unary operator give them.
     pub fn evaluate_without(&mut self, state: &[u32], excluded: &[Fact])
         ensures task { self.new.relaxed ≡ self.old.relaxed }
-        ensures costs { (parts : Parts) (kind : TheKind) → IsRelaxed parts kind self.old.relaxed → IsState parts.variables state.now →
+        ensures costs { (parts : Parts) (kind : TheKind) → IsRelaxed parts kind self.old.relaxed →
+            IsState parts.variables state.now →
             IsTrue (list_all (is_fact parts.variables) excluded.now) →
             IsEvaluated parts kind state.now excluded.now self.new.costs }
-        ensures numbers { (parts : Parts) (kind : TheKind) → IsRelaxed parts kind self.old.relaxed → IsState parts.variables state.now →
+        ensures numbers { (parts : Parts) (kind : TheKind) → IsRelaxed parts kind self.old.relaxed →
+            IsState parts.variables state.now →
             IsTrue (list_all (is_fact parts.variables) excluded.now) →
-            IsEvaluatedByNumber parts kind state.now (numbers_of parts.variables excluded.now) self.new.costs }
+            IsEvaluatedByNumber parts kind state.now (numbers_of parts.variables excluded.now)
+            self.new.costs }
     {
         self.settling.evaluate(&self.network, state, excluded);
     }
@@ -111,9 +122,11 @@ impl Add {
     /// afterwards.
     pub fn evaluate_goal(&mut self, state: &[u32]) -> Estimate
         ensures task { self.new.relaxed ≡ self.old.relaxed }
-        ensures value { (parts : Parts) (kind : TheKind) → IsRelaxed parts kind self.old.relaxed → IsState parts.variables state.now →
+        ensures value { (parts : Parts) (kind : TheKind) → IsRelaxed parts kind self.old.relaxed →
+            IsState parts.variables state.now →
             IsValueOfGoals parts kind state.now result }
-        ensures dead { (parts : Parts) (kind : TheKind) → IsRelaxed parts kind self.old.relaxed → IsState parts.variables state.now →
+        ensures dead { (parts : Parts) (kind : TheKind) → IsRelaxed parts kind self.old.relaxed →
+            IsState parts.variables state.now →
             ((result ≡ Estimate.Infinite) ↔ IsDead parts state.now) }
     {
         self.settling.evaluate_goals(&self.network, state);
@@ -122,18 +135,23 @@ impl Add {
 
     /// What a fact costs.
     pub fn value(&self, fact: Fact) -> Estimate
-        ensures cost { (parts : Parts) (kind : TheKind) (state : List ℕ) (without : List TheFact) → IsRelaxed parts kind self.now.relaxed →
-            IsEvaluated parts kind state without self.now.costs → IsTrue (is_fact parts.variables fact) →
+        ensures cost { (parts : Parts) (kind : TheKind) (state : List ℕ) (without : List TheFact) →
+            IsRelaxed parts kind self.now.relaxed →
+            IsEvaluated parts kind state without self.now.costs →
+            IsTrue (is_fact parts.variables fact) →
             IsAdditiveCost parts kind state without fact result }
-        ensures finite { (parts : Parts) (kind : TheKind) (state : List ℕ) (without : List TheFact) → IsRelaxed parts kind self.now.relaxed →
-            IsEvaluated parts kind state without self.now.costs → IsTrue (is_fact parts.variables fact) →
+        ensures finite { (parts : Parts) (kind : TheKind) (state : List ℕ) (without : List TheFact)
+            → IsRelaxed parts kind self.now.relaxed →
+            IsEvaluated parts kind state without self.now.costs →
+            IsTrue (is_fact parts.variables fact) →
             (IsTrue (is_finite result) ↔ IsReached parts state without fact) }
     {
         let number = self.network.relaxed().number(fact.var as usize, fact.val);
         value_of(self.settling.costs(), number)
     }
 
-    /// What the facts cost, by their numbers in the relaxation. A cost above 1,000,000,000 is infinite.
+    /// What the facts cost, by their numbers in the relaxation. A cost above 1,000,000,000 is
+    /// infinite.
     pub fn costs(&self) -> &[u32]
         ensures costs { result.now ≡ self.now.costs }
         ensures long { length result.now ≡ self.now.relaxed.facts }
@@ -150,23 +168,31 @@ impl Add {
         self.settling.order()
     }
 
-    /// The sum of what the goal facts cost, each once. It is finite where all of them are reached, and
-    /// then at most 1,000,000,000.
+    /// The sum of what the goal facts cost, each once. It is finite where all of them are reached,
+    /// and then at most 1,000,000,000.
     pub fn goal_value(&self) -> Estimate
-        ensures value { (parts : Parts) (kind : TheKind) (state : List ℕ) (without : List TheFact) → IsRelaxed parts kind self.now.relaxed →
-            IsEvaluated parts kind state without self.now.costs → IsGoalValue parts kind state without result }
-        ensures dead { (parts : Parts) (kind : TheKind) (state : List ℕ) → IsRelaxed parts kind self.now.relaxed →
-            IsEvaluated parts kind state [] self.now.costs → ((result ≡ Estimate.Infinite) ↔ IsDead parts state) }
+        ensures value { (parts : Parts) (kind : TheKind) (state : List ℕ) (without : List TheFact) →
+            IsRelaxed parts kind self.now.relaxed →
+            IsEvaluated parts kind state without self.now.costs →
+            IsGoalValue parts kind state without result }
+        ensures dead { (parts : Parts) (kind : TheKind) (state : List ℕ) →
+            IsRelaxed parts kind self.now.relaxed →
+            IsEvaluated parts kind state [] self.now.costs →
+            ((result ≡ Estimate.Infinite) ↔ IsDead parts state) }
     {
         estimate(total(self.settling.costs(), self.network.relaxed().goals()))
     }
 
-    /// Whether some goal fact is never reached. Then no operators lead to a state where the goal holds.
+    /// Whether some goal fact is never reached. Then no operators lead to a state where the goal
+    /// holds.
     pub fn is_dead(&self) -> bool
-        ensures exact { (parts : Parts) (kind : TheKind) (state : List ℕ) → IsRelaxed parts kind self.now.relaxed →
+        ensures exact { (parts : Parts) (kind : TheKind) (state : List ℕ) →
+            IsRelaxed parts kind self.now.relaxed →
             IsEvaluated parts kind state [] self.now.costs → (IsTrue result ↔ IsDead parts state) }
-        ensures safe { (parts : Parts) (kind : TheKind) (state ops last : List ℕ) → IsRelaxed parts kind self.now.relaxed →
-            IsEvaluated parts kind state [] self.now.costs → IsTrue result → end_of parts state ops ≡ Some last → is_goal parts last ≡ false }
+        ensures safe { (parts : Parts) (kind : TheKind) (state ops last : List ℕ) →
+            IsRelaxed parts kind self.now.relaxed →
+            IsEvaluated parts kind state [] self.now.costs → IsTrue result →
+            end_of parts state ops ≡ Some last → is_goal parts last ≡ false }
     {
         some_infinite(self.settling.costs(), self.network.relaxed().goals())
     }

@@ -25,7 +25,9 @@ impl Settling {
         requires way { IsSettling network.now.unaries self.old }
         ensures way { IsSettling network.now.unaries self.new }
         ensures idle { IsIdle self.new.waiting }
-        ensures from { (start without had : List ℕ) → IsFrom network.now.unaries start without had self.old → IsFrom network.now.unaries start without had self.new }
+        ensures from { (start without had : List ℕ) →
+            IsFrom network.now.unaries start without had self.old →
+            IsFrom network.now.unaries start without had self.new }
         ensures long { length self.new.costs ≡ length self.old.costs }
     {
         'steps: while self.step(network) {}
@@ -38,9 +40,12 @@ impl Settling {
         ensures way { IsSettling network.now.unaries self.new }
         ensures settled { result ≡ true → is_settled self.new fact ≡ true }
         ensures idle { result ≡ false → IsIdle self.new.waiting }
-        ensures from { (start without had : List ℕ) → IsFrom network.now.unaries start without had self.old → IsFrom network.now.unaries start without had self.new }
+        ensures from { (start without had : List ℕ) →
+            IsFrom network.now.unaries start without had self.old →
+            IsFrom network.now.unaries start without had self.new }
         ensures long { length self.new.costs ≡ length self.old.costs }
-        ensures stays { (other : ℕ) → is_settled self.old other ≡ true → is_settled self.new other ≡ true }
+        ensures stays { (other : ℕ) → is_settled self.old other ≡ true →
+            is_settled self.new other ≡ true }
     {
         'steps: while !self.is_settled(fact) {
             if !self.step(network) {
@@ -56,7 +61,9 @@ impl Settling {
         requires way { IsSettling network.now.unaries self.old }
         ensures way { IsSettling network.now.unaries self.new }
         ensures goals { AreSettled network.now.goals self.new }
-        ensures from { (start without had : List ℕ) → IsFrom network.now.unaries start without had self.old → IsFrom network.now.unaries start without had self.new }
+        ensures from { (start without had : List ℕ) →
+            IsFrom network.now.unaries start without had self.old →
+            IsFrom network.now.unaries start without had self.new }
         ensures long { length self.new.costs ≡ length self.old.costs }
     {
         for goal in network.relaxed().goals() {
@@ -70,11 +77,16 @@ impl Settling {
     pub fn evaluate(&mut self, network: &Network, state: &[u32], excluded: &[Fact])
         requires facts { network.now.facts ≡ length self.old.costs }
         requires unaries { length self.old.opens ≡ length network.now.unaries }
-        ensures evaluated { (parts : Parts) (kind : CostKind) → IsRelaxed parts kind network.now → IsState parts.variables state.now → IsTrue (list_all (is_fact parts.variables) excluded.now) →
-            IsEvaluatedByNumber parts kind state.now (numbers_of parts.variables excluded.now) self.new.costs }
+        ensures evaluated { (parts : Parts) (kind : CostKind) → IsRelaxed parts kind network.now →
+            IsState parts.variables state.now →
+            IsTrue (list_all (is_fact parts.variables) excluded.now) →
+            IsEvaluatedByNumber parts kind state.now (numbers_of parts.variables excluded.now)
+            self.new.costs }
         ensures places { IsTrue (are_places (length network.now.unaries) self.new.order) }
-        ensures order { (parts : Parts) (kind : CostKind) → IsRelaxed parts kind network.now → IsState parts.variables state.now → excluded.now ≡ [] →
-            IsOrder network.now.unaries (start_facts parts state.now) (value_at self.new.costs) self.new.order }
+        ensures order { (parts : Parts) (kind : CostKind) → IsRelaxed parts kind network.now →
+            IsState parts.variables state.now → excluded.now ≡ [] →
+            IsOrder network.now.unaries (start_facts parts state.now) (value_at self.new.costs)
+            self.new.order }
         ensures costs { length self.new.costs ≡ length self.old.costs }
         ensures opens { length self.new.opens ≡ length self.old.opens }
     {
@@ -88,8 +100,10 @@ impl Settling {
     pub fn evaluate_goals(&mut self, network: &Network, state: &[u32])
         requires facts { network.now.facts ≡ length self.old.costs }
         requires unaries { length self.old.opens ≡ length network.now.unaries }
-        ensures goals { (parts : Parts) (kind : CostKind) → IsRelaxed parts kind network.now → IsState parts.variables state.now →
-            (fact : ℕ) → is_among network.now.goals fact ≡ true → IsAdd parts kind state.now [] fact (value_at self.new.costs fact) }
+        ensures goals { (parts : Parts) (kind : CostKind) → IsRelaxed parts kind network.now →
+            IsState parts.variables state.now →
+            (fact : ℕ) → is_among network.now.goals fact ≡ true →
+            IsAdd parts kind state.now [] fact (value_at self.new.costs fact) }
         ensures places { IsTrue (are_places (length network.now.unaries) self.new.order) }
         ensures costs { length self.new.costs ≡ length self.old.costs }
         ensures opens { length self.new.opens ≡ length self.old.opens }

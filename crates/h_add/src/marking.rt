@@ -1,5 +1,6 @@
 // The beginning of an evaluation: what is left out, and what is reached at first.
-ghost use Rattle.std.specs.Prelude.{◌≡◌, ◌<◌, ◌≤◌, ◌∷◌, ◌++◌, [], ℕ, List, length, true, false, map};
+ghost use Rattle.std.specs.Prelude.{◌≡◌, ◌<◌, ◌≤◌, ◌∷◌, ◌++◌, [], ℕ, List, length, true, false};
+ghost use Rattle.std.specs.Prelude.{map};
 ghost use Rattle.relaxed_task.specs.Numbers.{is_among, number_by, numbers_by};
 ghost use Rattle.relaxed_task.specs.declared.unary.Unary.{Unary};
 ghost use Rattle.h_add.specs.Networks.{are_below};
@@ -13,9 +14,13 @@ use sas_task::Fact;
 impl Settling {
     /// Leaves out some facts: they count as settled, and nothing gives them.
     pub fn leave_all_out(&mut self, network: &Network, excluded: &[Fact])
-        ensures fresh { (unaries : List Unary) → IsFresh unaries self.old → IsFresh unaries self.new }
-        ensures out { are_below (length self.old.costs) (map (number_by network.now.offsets) excluded.now) ≡ true → ((fact : ℕ) → is_settled self.old fact ≡ false) →
-            (fact : ℕ) → is_settled self.new fact ≡ is_among (map (number_by network.now.offsets) excluded.now) fact }
+        ensures fresh { (unaries : List Unary) → IsFresh unaries self.old →
+            IsFresh unaries self.new }
+        ensures out { are_below (length self.old.costs)
+            (map (number_by network.now.offsets) excluded.now) ≡ true →
+            ((fact : ℕ) → is_settled self.old fact ≡ false) →
+            (fact : ℕ) → is_settled self.new fact ≡
+            is_among (map (number_by network.now.offsets) excluded.now) fact }
         ensures long { length self.new.costs ≡ length self.old.costs }
     {
         for fact in excluded {
@@ -28,8 +33,10 @@ impl Settling {
         requires facts { network.now.facts ≡ length self.old.costs }
         requires way { IsUnderWay network.now.unaries 0 [] self.old }
         ensures way { IsUnderWay network.now.unaries 0 [] self.new }
-        ensures from { (start without had : List ℕ) → fact < length self.old.costs → is_among start fact ≡ true → self.old.order ≡ [] →
-            IsFrom network.now.unaries start without had self.old → IsFrom network.now.unaries start without (had ++ fact ∷ []) self.new }
+        ensures from { (start without had : List ℕ) → fact < length self.old.costs →
+            is_among start fact ≡ true → self.old.order ≡ [] →
+            IsFrom network.now.unaries start without had self.old →
+            IsFrom network.now.unaries start without (had ++ fact ∷ []) self.new }
         ensures order { self.new.order ≡ self.old.order }
         ensures long { length self.new.costs ≡ length self.old.costs }
     {
@@ -44,8 +51,12 @@ impl Settling {
         requires facts { network.now.facts ≡ length self.old.costs }
         requires way { IsUnderWay network.now.unaries 0 [] self.old }
         ensures way { IsUnderWay network.now.unaries 0 [] self.new }
-        ensures from { (start without had : List ℕ) → are_below (length self.old.costs) facts.now ≡ true → ((fact : ℕ) → is_among facts.now fact ≡ true → is_among start fact ≡ true) → self.old.order ≡ [] →
-            IsFrom network.now.unaries start without had self.old → IsFrom network.now.unaries start without (had ++ facts.now) self.new }
+        ensures from { (start without had : List ℕ) →
+            are_below (length self.old.costs) facts.now ≡ true →
+            ((fact : ℕ) → is_among facts.now fact ≡ true → is_among start fact ≡ true) →
+            self.old.order ≡ [] →
+            IsFrom network.now.unaries start without had self.old →
+            IsFrom network.now.unaries start without (had ++ facts.now) self.new }
         ensures order { self.new.order ≡ self.old.order }
         ensures long { length self.new.costs ≡ length self.old.costs }
     {
@@ -59,9 +70,13 @@ impl Settling {
         requires facts { network.now.facts ≡ length self.old.costs }
         requires way { IsUnderWay network.now.unaries 0 [] self.old }
         ensures way { IsUnderWay network.now.unaries 0 [] self.new }
-        ensures from { (start without had : List ℕ) → are_below (length self.old.costs) (numbers_by network.now.offsets state.now) ≡ true →
-            ((fact : ℕ) → is_among (numbers_by network.now.offsets state.now) fact ≡ true → is_among start fact ≡ true) → self.old.order ≡ [] →
-            IsFrom network.now.unaries start without had self.old → IsFrom network.now.unaries start without (had ++ numbers_by network.now.offsets state.now) self.new }
+        ensures from { (start without had : List ℕ) →
+            are_below (length self.old.costs) (numbers_by network.now.offsets state.now) ≡ true →
+            ((fact : ℕ) → is_among (numbers_by network.now.offsets state.now) fact ≡ true →
+            is_among start fact ≡ true) → self.old.order ≡ [] →
+            IsFrom network.now.unaries start without had self.old →
+            IsFrom network.now.unaries start without (had ++
+            numbers_by network.now.offsets state.now) self.new }
         ensures order { self.new.order ≡ self.old.order }
         ensures long { length self.new.costs ≡ length self.old.costs }
     {
@@ -75,8 +90,12 @@ impl Settling {
         requires facts { network.now.facts ≡ length self.old.costs }
         requires fresh { IsFresh network.now.unaries self.old }
         ensures way { IsUnderWay network.now.unaries 0 [] self.new }
-        ensures from { (without : List ℕ) → are_below network.now.facts (numbers_by network.now.offsets state.now) ≡ true → ((fact : ℕ) → is_settled self.old fact ≡ is_among without fact) →
-            IsFrom network.now.unaries (numbers_by network.now.offsets state.now ++ network.now.defaults) without (numbers_by network.now.offsets state.now ++ network.now.defaults) self.new }
+        ensures from { (without : List ℕ) →
+            are_below network.now.facts (numbers_by network.now.offsets state.now) ≡ true →
+            ((fact : ℕ) → is_settled self.old fact ≡ is_among without fact) →
+            IsFrom network.now.unaries (numbers_by network.now.offsets state.now ++
+            network.now.defaults) without (numbers_by network.now.offsets state.now ++
+            network.now.defaults) self.new }
         ensures long { length self.new.costs ≡ length self.old.costs }
     {
         self.walk(network, network.free(), 0);

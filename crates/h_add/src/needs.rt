@@ -1,5 +1,6 @@
 // For each fact the unary operators that need it.
-ghost use Rattle.std.specs.Prelude.{◌≡◌, ◌+◌, ◌<◌, ◌^◌, ◌∷◌, ◌++◌, ℕ, List, length, IfOk, OnOk, IsTrue, true, slice_set, [], replicate};
+ghost use Rattle.std.specs.Prelude.{◌≡◌, ◌+◌, ◌<◌, ◌^◌, ◌∷◌, ◌++◌, ℕ, List, length, IfOk, OnOk};
+ghost use Rattle.std.specs.Prelude.{IsTrue, true, slice_set, [], replicate};
 ghost use Rattle.std.specs.List.{list_all};
 ghost use Rattle.lama_num.specs.Rows.{row_at};
 ghost use Rattle.relaxed_task.specs.Numbers.{is_unary_below};
@@ -13,7 +14,8 @@ use std::alloc::{AllocError, Global};
 /// Adds a place to the list of a fact.
 fn add_to(lists: &mut [Seq<u32>], fact: usize, place: u32) -> Result<(), AllocError>
     requires { fact < length lists.old }
-    ensures { OnOk result (lists.new ≡ slice_set lists.old fact (row_at lists.old fact ++ place ∷ [])) }
+    ensures { OnOk result (lists.new ≡
+        slice_set lists.old fact (row_at lists.old fact ++ place ∷ [])) }
 {
     lists[fact].push(place)
 }
@@ -42,8 +44,8 @@ fn no_lists(alloc: Global, facts: usize) -> Result<Vec<Seq<u32>>, AllocError>
     Ok(lists)
 }
 
-/// Adds a unary operator to the lists of what it needs: its conditions, or where it has none the fact
-/// that is always there.
+/// Adds a unary operator to the lists of what it needs: its conditions, or where it has none the
+/// fact that is always there.
 fn add_needs(
     lists: &mut [Seq<u32>],
     unary: &Unary,
@@ -66,8 +68,10 @@ fn add_each(lists: &mut [Seq<u32>], unaries: &[Unary], always: u32) -> Result<()
     requires few { length unaries.now < 2 ^ 32 }
     requires always { always < length lists.old }
     requires facts { IsTrue (list_all (is_unary_below (length lists.old)) unaries.now) }
-    ensures needs { OnOk result (((fact : ℕ) → row_at lists.old fact ≡ []) → IsNeeds unaries.now always lists.new) }
-    ensures within { OnOk result (list_all (are_within (length unaries.now)) lists.old ≡ true → list_all (are_within (length unaries.now)) lists.new ≡ true) }
+    ensures needs { OnOk result (((fact : ℕ) → row_at lists.old fact ≡ []) →
+        IsNeeds unaries.now always lists.new) }
+    ensures within { OnOk result (list_all (are_within (length unaries.now)) lists.old ≡ true →
+        list_all (are_within (length unaries.now)) lists.new ≡ true) }
     ensures long { length lists.new ≡ length lists.old }
 {
     for (i, unary) in unaries.iter().enumerate() {

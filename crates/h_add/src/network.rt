@@ -1,5 +1,6 @@
 // The unary operators of a relaxation in flat tables.
-ghost use Rattle.std.specs.Prelude.{◌≡◌, ◌+◌, ◌<◌, ◌≤◌, ◌^◌, ℕ, length, map, IfOk, IsTrue, slice_get, Some};
+ghost use Rattle.std.specs.Prelude.{◌≡◌, ◌+◌, ◌<◌, ◌≤◌, ◌^◌, ℕ, length, map, IfOk, IsTrue};
+ghost use Rattle.std.specs.Prelude.{slice_get, Some};
 ghost use Rattle.std.specs.List.{list_all};
 ghost use Rattle.relaxed_task.specs.declared.unary.Unary.{Unary as TheUnary};
 ghost use Rattle.relaxed_task.specs.Numbers.{is_unary_below};
@@ -18,7 +19,8 @@ pub struct Open {
     pub sum: u32,
 }
 
-/// A relaxation with its unary operators in tables, for loops over them. Contracts see the relaxation.
+/// A relaxation with its unary operators in tables, for loops over them. Contracts see the
+/// relaxation.
 #[derive(Debug, Drop)]
 pub struct Network {
     relaxed: Relaxed,
@@ -48,8 +50,8 @@ fn gives_of(alloc: Global, unaries: &[Unary]) -> Result<Vec<u32>, AllocError>
     unaries.iter().map(|unary| unary.gives).collect(alloc)
 }
 
-/// What is open of a unary operator. Conditions are counted with 32 bits: where there are more, there
-/// is no memory for them.
+/// What is open of a unary operator. Conditions are counted with 32 bits: where there are more,
+/// there is no memory for them.
 fn open_of(unary: &Unary) -> Result<Open, NoMemory>
     ensures { IfOk result (λ counts. counts ≡ open_at_start unary.now) }
 {
@@ -102,7 +104,8 @@ impl Network {
     /// What a unary operator gives.
     pub fn gives(&self, place: usize) -> u32
         requires { place < length self.now.unaries }
-        ensures gives { (u : TheUnary) → slice_get self.now.unaries place ≡ Some u → result ≡ u.gives }
+        ensures gives { (u : TheUnary) → slice_get self.now.unaries place ≡ Some u →
+            result ≡ u.gives }
         ensures below { result < self.now.facts }
     {
         self.gives[place]

@@ -1,11 +1,14 @@
 // Facts are settled one after the other, the cheapest first.
-ghost use Rattle.std.specs.Prelude.{◌≡◌, ◌+◌, ◌≤◌, ◌<◌, ◌∷◌, ◌++◌, [], ℕ, List, length, true, false, replicate, slice_set, Some, None, IfOk, IsTrue, MatchOption, nat_eq, if◌then◌else◌};
+ghost use Rattle.std.specs.Prelude.{◌≡◌, ◌+◌, ◌≤◌, ◌<◌, ◌∷◌, ◌++◌, [], ℕ, List, length, true};
+ghost use Rattle.std.specs.Prelude.{false, replicate, slice_set, Some, None, IfOk, IsTrue};
+ghost use Rattle.std.specs.Prelude.{MatchOption, nat_eq, if◌then◌else◌};
 ghost use Rattle.std.specs.Bool.{OnTrue, OnFalse};
 ghost use Rattle.cost_queue.specs.Queues.{price_of, IsPopped, IsIdle};
 ghost use Rattle.relaxed_task.specs.declared.unary.Unary.{Unary};
 ghost use Rattle.h_add.specs.Networks.{are_within};
 ghost use Rattle.h_add.specs.Settlements.{is_settled, open_at, offered, counted, settled_at};
-ghost use Rattle.h_add.specs.UnderWay.{IsUnderWay, IsSettling, IsFrom, IsFresh, HasCounted, Owes, left_to_do};
+ghost use Rattle.h_add.specs.UnderWay.{IsUnderWay, IsSettling, IsFrom, IsFresh, HasCounted, Owes};
+ghost use Rattle.h_add.specs.UnderWay.{left_to_do};
 
 use crate::network::{Network, Open};
 use crate::sums::INFINITE;
@@ -34,9 +37,16 @@ impl Model for Settling {
 
     ghost Value = { Settlement };
 
-    ghost view = { λ s. record { costs = s.costs.items; settled = s.settled.items; opens = s.opens.items; waiting = s.queue; order = s.order.items } };
+    ghost view = { λ s. record {
+      costs = s.costs.items;
+      settled = s.settled.items;
+      opens = s.opens.items;
+      waiting = s.queue;
+      order = s.order.items;
+    } };
 
-    ghost invariant = { λ s. AreLevel s.costs.items s.settled.items s.opens.items s.queue s.order.items (vec_capacity s.order) };
+    ghost invariant = { λ s. AreLevel s.costs.items s.settled.items s.opens.items s.queue
+        s.order.items (vec_capacity s.order) };
 }
 
 fn no_opens(alloc: Global, unaries: usize) -> Result<Vec<Open>, AllocError>
@@ -104,11 +114,20 @@ impl Settling {
         }
     }
 
+    /// Whether a fact that is there is settled.
+    fn has_settled(&self, fact: usize) -> bool
+        requires { fact < length self.now.costs }
+        ensures { result ≡ is_settled self.now fact }
+    {
+        self.settled[fact]
+    }
+
     /// Whether there is a fact that isn't settled.
     pub fn is_open(&self, fact: usize) -> bool
         ensures there { result ≡ true → fact < length self.now.costs }
         ensures new { result ≡ true → is_settled self.now fact ≡ false }
-        ensures old { fact < length self.now.costs → result ≡ false → is_settled self.now fact ≡ true }
+        ensures old { fact < length self.now.costs → result ≡ false →
+            is_settled self.now fact ≡ true }
         ensures facts { length self.now.settled ≡ length self.now.costs }
     {
         match self.settled.get(fact) {
@@ -133,8 +152,10 @@ impl Settling {
 
     /// Leaves a fact out, where it is there.
     pub fn leave_out(&mut self, fact: usize)
-        ensures fresh { (unaries : List Unary) → IsFresh unaries self.old → IsFresh unaries self.new }
-        ensures out { fact < length self.old.costs → self.new.settled ≡ slice_set self.old.settled fact true }
+        ensures fresh { (unaries : List Unary) → IsFresh unaries self.old →
+            IsFresh unaries self.new }
+        ensures out { fact < length self.old.costs →
+            self.new.settled ≡ slice_set self.old.settled fact true }
         ensures facts { length self.old.settled ≡ length self.old.costs }
         ensures long { length self.new.costs ≡ length self.old.costs }
     {
@@ -174,7 +195,9 @@ impl Settling {
         requires value { value ≤ 1000000000 }
         ensures counted { self.new ≡ counted self.old place value }
         ensures long { length self.old.waiting ≡ length self.old.opens }
-        ensures price { result ≡ (if nat_eq (open_at self.new place).count 0 then Some (open_at self.new place).sum else None) }
+        ensures price { result ≡
+            (if nat_eq (open_at self.new place).count 0
+            then Some (open_at self.new place).sum else None) }
     {
         let open = self.opens[place];
         let left = Open {
@@ -189,13 +212,15 @@ impl Settling {
         }
     }
 
-    /// Counts a fact of this cost among the conditions of a unary operator, which offers what it gives
-    /// if it has no other open.
+    /// Counts a fact of this cost among the conditions of a unary operator, which offers what it
+    /// gives if it has no other open.
     fn meet(&mut self, network: &Network, place: u32, value: u32)
         requires facts { network.now.facts ≡ length self.old.costs }
         requires place { place < length network.now.unaries }
         requires way { Owes network.now.unaries value place self.old }
-        ensures way { (owed : List ℕ) → IsUnderWay network.now.unaries value (place ∷ owed) self.old → IsUnderWay network.now.unaries value owed self.new }
+        ensures way { (owed : List ℕ) →
+            IsUnderWay network.now.unaries value (place ∷ owed) self.old →
+            IsUnderWay network.now.unaries value owed self.new }
         ensures counted { HasCounted network.now.unaries self.old self.new }
     {
         if let Some(price) = self.count(place as usize, value) {
@@ -204,6 +229,7 @@ impl Settling {
     }
 
     /// Counts a fact of this cost among the conditions of several unary operators.
+    #[inline(always)]
     pub fn walk(&mut self, network: &Network, places: &[u32], value: u32)
         requires facts { network.now.facts ≡ length self.old.costs }
         requires places { IsTrue (are_within (length network.now.unaries) places.now) }
@@ -230,7 +256,8 @@ impl Settling {
     fn give(&mut self, fact: usize, entry: Entry)
         requires fact { fact < length self.old.costs }
         requires new { is_settled self.old fact ≡ false }
-        ensures { self.new ≡ settled_at self.old fact entry.price (self.old.order ++ entry.number ∷ []) }
+        ensures { self.new ≡
+            settled_at self.old fact entry.price (self.old.order ++ entry.number ∷ []) }
     {
         self.costs[fact] = entry.price;
         self.settled[fact] = true;
@@ -240,23 +267,26 @@ impl Settling {
         }
     }
 
-    /// Takes the unary operator that waits under the least price, which settles the fact that it gives
-    /// if that isn't settled yet. None waits where it answers false.
+    /// Takes the unary operator that waits under the least price, which settles the fact that it
+    /// gives if that isn't settled yet. None waits where it answers false.
     pub fn step(&mut self, network: &Network) -> bool
         requires facts { network.now.facts ≡ length self.old.costs }
         requires way { IsSettling network.now.unaries self.old }
         ensures way { IsSettling network.now.unaries self.new }
-        ensures from { (start without had : List ℕ) → IsFrom network.now.unaries start without had self.old → IsFrom network.now.unaries start without had self.new }
+        ensures from { (start without had : List ℕ) →
+            IsFrom network.now.unaries start without had self.old →
+            IsFrom network.now.unaries start without had self.new }
         ensures long { length self.new.costs ≡ length self.old.costs }
         ensures less { OnTrue result (left_to_do self.new < left_to_do self.old) }
         ensures idle { OnFalse result (IsIdle self.new.waiting) }
-        ensures stays { (fact : ℕ) → is_settled self.old fact ≡ true → is_settled self.new fact ≡ true }
+        ensures stays { (fact : ℕ) → is_settled self.old fact ≡ true →
+            is_settled self.new fact ≡ true }
     {
         let Some(entry) = self.pop() else {
             return false;
         };
         let fact = network.gives(entry.number as usize) as usize;
-        if !self.is_settled(fact) {
+        if !self.has_settled(fact) {
             self.give(fact, entry);
             self.walk(network, network.needs(fact), entry.price);
         }

@@ -16,12 +16,13 @@ use std::marker::Model;
 
 /// The FF estimate of the states of one task.
 ///
-/// `relaxed_plan` and `preferred` speak of the state that was evaluated last. Only `new` takes memory.
-/// A relaxed plan is made from best supporters, unary operators that give a fact for what it costs by
-/// the additive estimate: those by which the facts were settled there, as far as they are needed.
+/// `relaxed_plan` and `preferred` speak of the state that was evaluated last. Only `new` takes
+/// memory. A relaxed plan is made from best supporters, unary operators that give a fact for what
+/// it costs by the additive estimate: those by which the facts were settled there, as far as they
+/// are needed.
 ///
-/// The estimate is that of Hoffmann and Nebel, "The FF planning system" (2001), with the supporters of
-/// the additive estimate as in Keyder and Geffner, "Heuristics for planning with action costs
+/// The estimate is that of Hoffmann and Nebel, "The FF planning system" (2001), with the supporters
+/// of the additive estimate as in Keyder and Geffner, "Heuristics for planning with action costs
 /// revisited" (2008).
 #[derive(Drop)]
 pub struct Ff {
@@ -35,14 +36,27 @@ impl Model for Ff {
 
     ghost Value = { Planner };
 
-    ghost view = { λ f. record { relaxed = f.add.relaxed; costs = f.add.costs; kind = f.kind; plan = f.plan.operators; preferred = f.plan.preferred } };
+    ghost view = { λ f. record {
+      relaxed = f.add.relaxed;
+      costs = f.add.costs;
+      kind = f.kind;
+      plan = f.plan.operators;
+      preferred = f.plan.preferred;
+    } };
 
     ghost invariant = { λ f. IsKept f.add.relaxed f.plan };
 }
 
 /// The evaluator over an additive one.
 fn planner(alloc: Global, add: Add, kind: CostKind) -> Result<Ff, NoMemory>
-    ensures { IfOk result (λ ff. ff ≡ record { relaxed = add.relaxed; costs = add.costs; kind = kind; plan = []; preferred = [] }) }
+    ensures { IfOk result (λ ff. ff ≡
+        record {
+          relaxed = add.relaxed;
+          costs = add.costs;
+          kind = kind;
+          plan = [];
+          preferred = [];
+        }) }
 {
     let facts = add.relaxed().facts() as usize;
     let plan = RelaxedPlan::new(alloc, facts)?;
@@ -61,19 +75,23 @@ impl Ff {
         planner(alloc, add, kind)
     }
 
-    /// The estimate of a state of the task: what the operators of a relaxed plan cost together, each
-    /// once, at most 1,000,000,000. Infinite where the state is dead: then no operators lead from it to
-    /// a state where the goal holds.
+    /// The estimate of a state of the task: what the operators of a relaxed plan cost together,
+    /// each once, at most 1,000,000,000. Infinite where the state is dead: then no operators lead
+    /// from it to a state where the goal holds.
     pub fn evaluate(&mut self, task: &Task, state: &[u32]) -> Estimate
         requires { length state.now ≡ length task.now.variables }
         ensures task { self.new.relaxed ≡ self.old.relaxed }
         ensures kind { self.new.kind ≡ self.old.kind }
-        ensures answer { IsRelaxed task.now self.old.kind self.old.relaxed → IsState task.now.variables state.now →
+        ensures answer { IsRelaxed task.now self.old.kind self.old.relaxed →
+            IsState task.now.variables state.now →
             IsFf task.now self.old.kind state.now result self.new.plan self.new.preferred }
-        ensures costs { IsRelaxed task.now self.old.kind self.old.relaxed → IsState task.now.variables state.now →
+        ensures costs { IsRelaxed task.now self.old.kind self.old.relaxed →
+            IsState task.now.variables state.now →
             IsEvaluated task.now self.old.kind state.now [] self.new.costs }
-        ensures safe { (ops last : List ℕ) → IsRelaxed task.now self.old.kind self.old.relaxed → IsState task.now.variables state.now →
-            result ≡ Estimate.Infinite → end_of task.now state.now ops ≡ Some last → is_goal task.now last ≡ false }
+        ensures safe { (ops last : List ℕ) → IsRelaxed task.now self.old.kind self.old.relaxed →
+            IsState task.now.variables state.now →
+            result ≡ Estimate.Infinite → end_of task.now state.now ops ≡ Some last →
+            is_goal task.now last ≡ false }
     {
         self.plan.clear();
         self.add.evaluate(state);
@@ -85,8 +103,8 @@ impl Ff {
         Estimate::Finite(cost(task, self.kind, self.plan.operators()))
     }
 
-    /// The additive estimate of the state that was evaluated last: a search with both guides evaluates a
-    /// state once.
+    /// The additive estimate of the state that was evaluated last: a search with both guides
+    /// evaluates a state once.
     pub fn additive(&self) -> &Add
         ensures task { result.now.relaxed ≡ self.now.relaxed }
         ensures costs { result.now.costs ≡ self.now.costs }

@@ -1,5 +1,6 @@
 // Flags for facts, and lists with room.
-ghost use Rattle.std.specs.Prelude.{◌≡◌, ◌<◌, ◌≤◌, ◌∷◌, ◌++◌, ◌||◌, [], ℕ, length, true, false, IsTrue, IfOk, replicate, vec_len, vec_capacity};
+ghost use Rattle.std.specs.Prelude.{◌≡◌, ◌<◌, ◌≤◌, ◌∷◌, ◌++◌, ◌||◌, [], ℕ, length, true, false};
+ghost use Rattle.std.specs.Prelude.{IsTrue, IfOk, replicate, vec_len, vec_capacity};
 ghost use Rattle.std.specs.List.{list_all};
 ghost use Rattle.relaxed_task.specs.Numbers.{is_below};
 ghost use Rattle.relaxed_task.specs.Numbers.{is_among};
@@ -26,7 +27,8 @@ pub fn flag(flags: &[bool], fact: u32) -> bool
 /// Flags facts.
 pub fn flag_all(flags: &mut [bool], facts: &[u32])
     requires { IsTrue (list_all (is_below (length flags.old)) facts.now) }
-    ensures { (fact : ℕ) → is_given flags.new fact ≡ (is_among facts.now fact || is_given flags.old fact) }
+    ensures { (fact : ℕ) →
+        is_given flags.new fact ≡ (is_among facts.now fact || is_given flags.old fact) }
 {
     for fact in facts {
         flags[*fact as usize] = true;

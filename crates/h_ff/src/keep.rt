@@ -1,5 +1,6 @@
 // Which best supporters of an order are needed.
-ghost use Rattle.std.specs.Prelude.{◌≡◌, ◌+◌, ◌<◌, ◌≤◌, [], ℕ, List, length, IsTrue, drop, vec_len, vec_capacity};
+ghost use Rattle.std.specs.Prelude.{◌≡◌, ◌+◌, ◌<◌, ◌≤◌, [], ℕ, List, length, IsTrue, drop, vec_len};
+ghost use Rattle.std.specs.Prelude.{vec_capacity};
 ghost use Rattle.std.specs.List.{list_all};
 ghost use Rattle.relaxed_task.specs.Numbers.{is_among};
 ghost use Rattle.relaxed_task.specs.Numbers.{is_unary_below};
@@ -16,9 +17,13 @@ fn keep_last(unaries: &[Unary], order: &[u32], k: usize, marks: &mut [bool], pla
     requires places { IsTrue (are_places (length unaries.now) order.now) }
     requires facts { IsTrue (list_all (is_unary_below (length marks.old)) unaries.now) }
     requires room { vec_len plan.old + k < vec_capacity plan.old }
-    ensures marks { (goals : List ℕ) → AreMarked unaries.now goals (drop (k + 1) order.now) marks.old → AreMarked unaries.now goals (drop k order.now) marks.new }
-    ensures plan { (goals : List ℕ) → AreMarked unaries.now goals (drop (k + 1) order.now) marks.old →
-        plan.old.items ≡ kept_places unaries.now goals (drop (k + 1) order.now) → plan.new.items ≡ kept_places unaries.now goals (drop k order.now) }
+    ensures marks { (goals : List ℕ) →
+        AreMarked unaries.now goals (drop (k + 1) order.now) marks.old →
+        AreMarked unaries.now goals (drop k order.now) marks.new }
+    ensures plan { (goals : List ℕ) →
+        AreMarked unaries.now goals (drop (k + 1) order.now) marks.old →
+        plan.old.items ≡ kept_places unaries.now goals (drop (k + 1) order.now) →
+        plan.new.items ≡ kept_places unaries.now goals (drop k order.now) }
     ensures room { vec_len plan.new + k ≤ vec_capacity plan.new }
     ensures capacity { vec_capacity plan.old ≤ vec_capacity plan.new }
 {
@@ -38,7 +43,8 @@ pub fn keep_needed(unaries: &[Unary], order: &[u32], marks: &mut [bool], plan: &
     requires room { length order.now ≤ vec_capacity plan.old }
     ensures marks { length marks.new ≡ length marks.old }
     ensures room { vec_capacity plan.old ≤ vec_capacity plan.new }
-    ensures plan { (goals : List ℕ) → ((fact : ℕ) → is_given marks.old fact ≡ is_among goals fact) → plan.new.items ≡ kept_places unaries.now goals order.now }
+    ensures plan { (goals : List ℕ) → ((fact : ℕ) → is_given marks.old fact ≡ is_among goals fact) →
+        plan.new.items ≡ kept_places unaries.now goals order.now }
 {
     for k in (0..order.len()).rev() {
         keep_last(unaries, order, k, marks, plan);

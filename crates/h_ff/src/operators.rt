@@ -1,5 +1,6 @@
 // The operators of a relaxed plan, what they cost, and which of them are applicable.
-ghost use Rattle.std.specs.Prelude.{◌≡◌, ◌+◌, ◌<◌, ◌≤◌, ◌↔◌, ◌∷◌, ◌++◌, [], ℕ, Contains, filter, length, IsTrue, if◌then◌else◌, vec_len, vec_capacity};
+ghost use Rattle.std.specs.Prelude.{◌≡◌, ◌+◌, ◌<◌, ◌≤◌, ◌↔◌, ◌∷◌, ◌++◌, [], ℕ, Contains, filter};
+ghost use Rattle.std.specs.Prelude.{length, IsTrue, if◌then◌else◌, vec_len, vec_capacity};
 ghost use Rattle.std.specs.List.Sorted.{IsStrictlyIncreasing};
 ghost use Rattle.state_step.specs.Steps.{is_applicable as applicable};
 ghost use Rattle.h_ff.specs.Orders.{ops_of};
@@ -7,9 +8,8 @@ ghost use Rattle.h_add.specs.Orders.{chosen, are_places};
 ghost use Rattle.h_ff.specs.RelaxedPlans.{cost_of};
 
 use crate::flags::push_in;
-use axiom_eval::all_hold;
 use relaxed_task::Unary;
-use sas_task::{CostKind, Task};
+use sas_task::{CostKind, Task, all_hold};
 
 /// Adds the operator of a unary operator; a rule has none.
 fn add_operator(unary: &Unary, ops: &mut Vec<u32>)
@@ -54,7 +54,8 @@ pub fn operators_into(unaries: &[Unary], places: &[u32], ops: &mut Vec<u32>)
     requires places { IsTrue (are_places (length unaries.now) places.now) }
     requires room { length places.now ≤ vec_capacity ops.old }
     ensures ascending { IsStrictlyIncreasing ops.new.items }
-    ensures same { (op : ℕ) → Contains ops.new.items op ↔ Contains (ops_of (chosen unaries.now places.now)) op }
+    ensures same { (op : ℕ) →
+        Contains ops.new.items op ↔ Contains (ops_of (chosen unaries.now places.now)) op }
     ensures few { vec_len ops.new ≤ length places.now }
     ensures room { vec_capacity ops.old ≤ vec_capacity ops.new }
 {
@@ -91,7 +92,9 @@ fn is_applicable(task: &Task, state: &[u32], op: u32) -> bool
 fn add_if_applicable(task: &Task, state: &[u32], op: u32, preferred: &mut Vec<u32>)
     requires state { length state.now ≡ length task.now.variables }
     requires room { vec_len preferred.old < vec_capacity preferred.old }
-    ensures items { preferred.new.items ≡ (if applicable task.now state.now op then preferred.old.items ++ op ∷ [] else preferred.old.items) }
+    ensures items { preferred.new.items ≡
+        (if applicable task.now state.now op
+        then preferred.old.items ++ op ∷ [] else preferred.old.items) }
     ensures len { vec_len preferred.new ≤ vec_len preferred.old + 1 }
     ensures room { vec_capacity preferred.old ≤ vec_capacity preferred.new }
 {

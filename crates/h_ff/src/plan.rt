@@ -1,6 +1,7 @@
 // A relaxed plan: the operators of what is needed of an order.
 ghost use Rattle.relaxed_task.specs.Numbers.{over_numbers};
-ghost use Rattle.std.specs.Prelude.{◌≡◌, ◌≤◌, [], length, true, filter, IfOk, vec_len, vec_capacity};
+ghost use Rattle.std.specs.Prelude.{◌≡◌, ◌≤◌, [], length, true, filter, IfOk, vec_len};
+ghost use Rattle.std.specs.Prelude.{vec_capacity};
 ghost use Rattle.relaxed_task.specs.Relaxing.{kept};
 ghost use Rattle.state_step.specs.Steps.{is_applicable};
 ghost use Rattle.h_ff.specs.Orders.{ops_of};
@@ -33,9 +34,14 @@ impl Model for RelaxedPlan {
 
     ghost Value = { Planned };
 
-    ghost view = { λ p. record { facts = length p.marks.items; operators = p.operators.items; preferred = p.preferred.items } };
+    ghost view = { λ p. record {
+      facts = length p.marks.items;
+      operators = p.operators.items;
+      preferred = p.preferred.items;
+    } };
 
-    ghost invariant = { λ p. HasPlaces (length p.marks.items) (vec_capacity p.needed) (vec_len p.operators) (vec_capacity p.operators) (vec_capacity p.preferred) };
+    ghost invariant = { λ p. HasPlaces (length p.marks.items) (vec_capacity p.needed)
+        (vec_len p.operators) (vec_capacity p.operators) (vec_capacity p.preferred) };
 }
 
 /// The operators of what is needed of an order of best supporters to reach the goal facts.
@@ -51,7 +57,9 @@ fn operators_of(
     requires empty { operators.old.items ≡ [] }
     requires needed { length order.now ≤ vec_capacity needed.old }
     requires room { length order.now ≤ vec_capacity operators.old }
-    ensures operators { AreEachOnce (ops_of (kept over_numbers relaxed.now.goals (chosen relaxed.now.unaries order.now))) operators.new.items }
+    ensures operators { AreEachOnce
+        (ops_of (kept over_numbers relaxed.now.goals (chosen relaxed.now.unaries order.now)))
+        operators.new.items }
     ensures few { vec_len operators.new ≤ length order.now }
     ensures marks { length marks.new ≡ length marks.old }
     ensures needed { vec_capacity needed.old ≤ vec_capacity needed.new }
@@ -108,13 +116,16 @@ impl RelaxedPlan {
         self.preferred.clear();
     }
 
-    /// Finds the operators of what is needed of an order of best supporters to reach the goal facts.
+    /// Finds the operators of what is needed of an order of best supporters to reach the goal
+    /// facts.
     pub fn find(&mut self, relaxed: &Relaxed, order: &[u32])
         requires facts { self.old.facts ≡ relaxed.now.facts }
         requires places { are_places (length relaxed.now.unaries) order.now ≡ true }
         requires few { length order.now ≤ self.old.facts }
         requires empty { self.old.operators ≡ [] }
-        ensures operators { AreEachOnce (ops_of (kept over_numbers relaxed.now.goals (chosen relaxed.now.unaries order.now))) self.new.operators }
+        ensures operators { AreEachOnce
+            (ops_of (kept over_numbers relaxed.now.goals (chosen relaxed.now.unaries order.now)))
+            self.new.operators }
         ensures preferred { self.new.preferred ≡ self.old.preferred }
         ensures facts { self.new.facts ≡ self.old.facts }
     {
@@ -131,7 +142,8 @@ impl RelaxedPlan {
     pub fn prefer(&mut self, task: &Task, state: &[u32])
         requires state { length state.now ≡ length task.now.variables }
         requires empty { self.old.preferred ≡ [] }
-        ensures preferred { self.new.preferred ≡ filter (is_applicable task.now state.now) self.old.operators }
+        ensures preferred { self.new.preferred ≡
+            filter (is_applicable task.now state.now) self.old.operators }
         ensures operators { self.new.operators ≡ self.old.operators }
         ensures facts { self.new.facts ≡ self.old.facts }
     {

@@ -1,11 +1,27 @@
-// The delivery task: a truck brings packages along a road.
+// The delivery task: a truck brings packages along a road. Its operators cost what is asked for.
 use crate::failure::Failure;
 use lama_num::Seq;
 use sas_task::{Fact, Operator, Parts, Task, Variable, check};
 use std::alloc::{AllocError, Global};
 use test_tasks::{fact, facts, giving, variable};
 
-/// The truck is variable 0, and package k is variable k; the value after the places is "in the truck".
+/// What operators cost: from the least to the greatest, scattered by their numbers.
+#[derive(Clone, Copy, Debug)]
+pub struct Costs {
+    pub least: u32,
+    pub greatest: u32,
+}
+
+impl Costs {
+    fn of(self, operator: usize) -> u32 {
+        let scattered = ((operator % 4_294_967_296) as u32).wrapping_mul(2_654_435_761) >> 8;
+        let kinds = self.greatest.saturating_sub(self.least).saturating_add(1);
+        self.least.saturating_add(scattered % kinds)
+    }
+}
+
+/// The truck is variable 0, and package k is variable k; the value after the places is "in the
+/// truck".
 fn variables(alloc: Global, packages: u32) -> Result<Seq<Variable>, AllocError> {
     let mut variables = Seq::new(alloc);
     variables.push(variable(alloc, None, packages.saturating_add(1))?)?;
@@ -41,10 +57,11 @@ fn goal(alloc: Global, packages: u32) -> Result<Seq<Fact>, AllocError> {
 fn add_operator(
     alloc: Global,
     operators: &mut Seq<Operator>,
+    costs: Costs,
     pre: &[Fact],
     gives: Fact,
 ) -> Result<(), AllocError> {
-    let operator = giving(alloc, pre, gives, 1)?;
+    let operator = giving(alloc, pre, gives, costs.of(operators.len()))?;
     operators.push(operator)
 }
 
@@ -52,12 +69,13 @@ fn add_operator(
 fn add_moves(
     alloc: Global,
     operators: &mut Seq<Operator>,
+    costs: Costs,
     packages: u32,
 ) -> Result<(), AllocError> {
     for here in 0..packages {
         let next = here.saturating_add(1);
-        add_operator(alloc, operators, &[fact(0, here)], fact(0, next))?;
-        add_operator(alloc, operators, &[fact(0, next)], fact(0, here))?;
+        add_operator(alloc, operators, costs, &[fact(0, here)], fact(0, next))?;
+        add_operator(alloc, operators, costs, &[fact(0, next)], fact(0, here))?;
     }
     Ok(())
 }
@@ -66,6 +84,7 @@ fn add_moves(
 fn add_loads(
     alloc: Global,
     operators: &mut Seq<Operator>,
+    costs: Costs,
     package: u32,
     places: u32,
 ) -> Result<(), AllocError> {
@@ -73,19 +92,20 @@ fn add_loads(
         let truck = fact(0, place);
         let there = fact(package, place);
         let inside = fact(package, places);
-        add_operator(alloc, operators, &[truck, there], inside)?;
-        add_operator(alloc, operators, &[truck, inside], there)?;
+        add_operator(alloc, operators, costs, &[truck, there], inside)?;
+        add_operator(alloc, operators, costs, &[truck, inside], there)?;
     }
     Ok(())
 }
 
-fn operators(alloc: Global, packages: u32) -> Result<Seq<Operator>, AllocError> {
+fn operators(alloc: Global, costs: Costs, packages: u32) -> Result<Seq<Operator>, AllocError> {
     let mut operators = Seq::new(alloc);
-    add_moves(alloc, &mut operators, packages)?;
+    add_moves(alloc, &mut operators, costs, packages)?;
     for package in 0..packages {
         add_loads(
             alloc,
             &mut operators,
+            costs,
             package.saturating_add(1),
             packages.saturating_add(1),
         )?;
@@ -94,13 +114,13 @@ fn operators(alloc: Global, packages: u32) -> Result<Seq<Operator>, AllocError> 
 }
 
 /// The delivery task of so many packages.
-pub fn delivery(alloc: Global, packages: u32) -> Result<Task, Failure> {
+pub fn delivery(alloc: Global, costs: Costs, packages: u32) -> Result<Task, Failure> {
     let variables = variables(alloc, packages)?;
     let init = init(alloc, packages)?;
     let goal = goal(alloc, packages)?;
-    let operators = operators(alloc, packages)?;
+    let operators = operators(alloc, costs, packages)?;
     Ok(check(Parts {
-        metric: false,
+        metric: true,
         variables,
         groups: Seq::new(alloc),
         init,

@@ -1,14 +1,15 @@
-//! Times the estimates of the relaxation: `relaxation_bench PACKAGES ADDITIVE FF`.
+//! Times the estimates of the relaxation: `relaxation_bench PACKAGES ADDITIVE FF LEAST GREATEST`.
 //!
-//! It makes the delivery task of so many packages, evaluates the initial state so many times by the
-//! additive estimate and so many times by FF, and prints the size of the task and the estimates. What
-//! one evaluation takes is the difference of two runs.
+//! It makes the delivery task of so many packages, with operators that cost from the least to the
+//! greatest, evaluates the initial state so many times by the additive estimate and so many times
+//! by FF, and prints the size of the task and the estimates. What one evaluation takes is the
+//! difference of two runs.
 #![tactic(auto)]
 
 mod delivery;
 mod failure;
 
-use delivery::delivery;
+use delivery::{Costs, delivery};
 use failure::Failure;
 use h_add::Add;
 use h_ff::Ff;
@@ -19,12 +20,13 @@ use std::env;
 use std::io::Print;
 use std::rt::Env;
 
-/// What is measured: a size, and how many evaluations.
+/// What is measured: a size, how many evaluations, and what operators cost.
 #[derive(Clone, Copy, Debug)]
 struct Measured {
     packages: u32,
     additive: u32,
     ff: u32,
+    costs: Costs,
 }
 
 /// A word of the command line as a number, where it is one.
@@ -37,6 +39,10 @@ fn work(words: &[String]) -> Option<Measured> {
         packages: number(words, 1)?,
         additive: number(words, 2)?,
         ff: number(words, 3)?,
+        costs: Costs {
+            least: number(words, 4)?,
+            greatest: number(words, 5)?,
+        },
     })
 }
 
@@ -60,7 +66,7 @@ fn ff(alloc: Global, task: &Task, times: u32) -> Result<Estimate, Failure> {
 }
 
 fn measure(rt: &(impl Print + AllocGlobal), work: Measured) -> Result<(), Failure> {
-    let task = delivery(rt.alloc(), work.packages)?;
+    let task = delivery(rt.alloc(), work.costs, work.packages)?;
     let additive = additive(rt.alloc(), &task, work.additive)?;
     let ff = ff(rt.alloc(), &task, work.ff)?;
     println!(rt; "operators {}", task.parts().operators.len())?;

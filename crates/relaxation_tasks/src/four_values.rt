@@ -24,8 +24,8 @@ fn operators(alloc: Global, free: u32, on: u32) -> Result<Seq<Operator>, AllocEr
     Ok(operators)
 }
 
-/// The variable moves between its first two values at a cost, and on to the third at another, in two
-/// ways. Nothing gives the last.
+/// The variable moves between its first two values at a cost, and on to the third at another, in
+/// two ways. Nothing gives the last.
 pub fn moves(alloc: Global, free: u32, on: u32, goal: u32) -> Result<Parts, AllocError> {
     let mut variables = Seq::new(alloc);
     variables.push(variable(alloc, None, 4)?)?;

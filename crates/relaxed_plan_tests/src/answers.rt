@@ -1,5 +1,5 @@
-// What FF answers, as plain numbers, by functions that promise nothing, so that the proof of a test has
-// nothing to carry.
+// What FF answers, as plain numbers, by functions that promise nothing, so that the proof of a test
+// has nothing to carry.
 use h_ff::Ff;
 use lama_num::Estimate;
 use sas_task::{CostKind, Task};
@@ -32,7 +32,8 @@ fn evaluated(rt: &impl Abort, ff: &mut Ff, task: &Task, state: &[u32]) -> u32 {
     plain(ff.evaluate(task, state))
 }
 
-/// The estimate of a state, the operators of its relaxed plan, and those that are preferred.
+/// The additive estimate of a state, that of FF, the operators of its relaxed plan, and those that
+/// are preferred.
 pub fn answers(
     rt: &(impl Abort + AllocGlobal),
     task: &Task,
@@ -40,7 +41,9 @@ pub fn answers(
 ) -> Result<Vec<u32>, Fail> {
     let mut ff = Ff::new(rt.alloc(), task, CostKind::Normal)?;
     let mut answers = Vec::new(rt.alloc());
-    answers.push(evaluated(rt, &mut ff, task, state))?;
+    let estimate = evaluated(rt, &mut ff, task, state);
+    answers.push(plain(ff.additive().goal_value()))?;
+    answers.push(estimate)?;
     push_all(&mut answers, ff.relaxed_plan())?;
     answers.push(AND)?;
     push_all(&mut answers, ff.preferred())?;

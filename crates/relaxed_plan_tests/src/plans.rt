@@ -1,4 +1,5 @@
-// Relaxed plans that were worked by hand: the estimate, the plan's operators, and the preferred ones.
+// Relaxed plans that were worked by hand: the additive estimate, that of FF, the plan's operators,
+// and the preferred ones.
 use crate::answers::{AND, NEVER, answers};
 use relaxation_tasks::moves;
 use sas_task::check;
@@ -11,11 +12,11 @@ fn one_of_two_equal_supporters(rt: HostRuntime) -> Result<(), Fail> {
         return Err(Fail::from("refused"));
     };
     let far = answers(&rt, &task, &[0])?;
-    assert!(rt; far.as_slice() == [3, 0, 2, AND, 0].as_slice());
+    assert!(rt; far.as_slice() == [3, 3, 0, 2, AND, 0].as_slice());
     let near = answers(&rt, &task, &[1])?;
-    assert!(rt; near.as_slice() == [3, 2, AND, 2].as_slice());
+    assert!(rt; near.as_slice() == [3, 3, 2, AND, 2].as_slice());
     let there = answers(&rt, &task, &[2])?;
-    assert!(rt; there.as_slice() == [0, AND].as_slice());
+    assert!(rt; there.as_slice() == [0, 0, AND].as_slice());
     Ok(())
 }
 
@@ -25,7 +26,7 @@ fn a_plan_that_costs_more_than_the_largest_estimate(rt: HostRuntime) -> Result<(
         return Err(Fail::from("refused"));
     };
     let all = answers(&rt, &task, &[0])?;
-    assert!(rt; all.as_slice() == [1_000_000_000, 0, 2, AND, 0].as_slice());
+    assert!(rt; all.as_slice() == [1_000_000_000, 1_000_000_000, 0, 2, AND, 0].as_slice());
     Ok(())
 }
 
@@ -33,7 +34,7 @@ fn a_plan_that_costs_more_than_the_largest_estimate(rt: HostRuntime) -> Result<(
 fn goals_that_destroy_each_other(rt: HostRuntime) -> Result<(), Fail> {
     let task = task(rt.alloc(), rivals())?;
     let all = answers(&rt, &task, &[0, 0])?;
-    assert!(rt; all.as_slice() == [2, 0, 1, AND, 0, 1].as_slice());
+    assert!(rt; all.as_slice() == [2, 2, 0, 1, AND, 0, 1].as_slice());
     Ok(())
 }
 
@@ -41,8 +42,8 @@ fn goals_that_destroy_each_other(rt: HostRuntime) -> Result<(), Fail> {
 fn a_door_that_must_be_shut_again(rt: HostRuntime) -> Result<(), Fail> {
     let task = task(rt.alloc(), door())?;
     let open = answers(&rt, &task, &[1, 0, 1])?;
-    assert!(rt; open.as_slice() == [1, 0, AND, 0].as_slice());
+    assert!(rt; open.as_slice() == [1, 1, 0, AND, 0].as_slice());
     let shut = answers(&rt, &task, &[0, 0, 0])?;
-    assert!(rt; shut.as_slice() == [NEVER, AND].as_slice());
+    assert!(rt; shut.as_slice() == [NEVER, NEVER, AND].as_slice());
     Ok(())
 }

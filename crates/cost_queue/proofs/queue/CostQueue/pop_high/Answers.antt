@@ -1,28 +1,22 @@
-use Rattle.std.proofs.Common.{◌<◌, refl, length, arith}
-use Rattle.cost_queue.specs.Laws.{there}
-use Rattle.cost_queue.proofs.Heaps.{popped_waits, high_popped, high_taken, none_high}
-use Rattle.cost_queue.proofs.Linking.{low_kept_less}
+use Rattle.std.proofs.Common.{◌≡◌, ◌∙◌, refl, ap, List, ℕ, Option, Some, ◌≤◌}
+use Rattle.cost_queue.specs.Queues.{price_of}
+use Rattle.cost_queue.proofs.Whole.{left, popped_high, taken_high, none_left, stands_for}
 use Rattle.cost_queue.proofs.queue.CostQueue.pop_high.Goals as goal
 
-pub index_mut-requires : goal.index_mut-requires
-index_mut-requires c =
-    let waits = popped_waits _ _ _ _ _ _ c.in-Some.ensures.permutation c.self.invariant.high in
-    let lt : c.in-Some.field-0.0.1 < length c.self.inside.prices.items = there c.self.inside.prices.items c.in-Some.field-0.0.1 c.in-Some.field-0.0.0 waits.1 in
-    omega (arith, lt)
+pub invariant_of-self-inside : goal.invariant_of-self-inside
+invariant_of-self-inside c = ((left c.self.inside.prices.0 c.pop.result, popped_high _ _ _ _ _ _ _ _ _ _ c.pop.result c.self.inside.prices c.pop.ensures.capacity c.pop.ensures.len c.pop.ensures.permutation c.pop.ensures.heap_order c.pop.ensures.unchanged), tt)
 
-pub invariant_of-self : goal.invariant_of-self
-invariant_of-self c =
-    let waits = popped_waits _ _ _ _ _ _ c.in-Some.ensures.permutation c.self.invariant.high in
-    record {
-      low = low_kept_less _ _ _ _ _ _ _ waits.1 waits.0 c.self.invariant.low;
-      high = high_popped _ _ _ _ _ _ _ _ c.in-Some.ensures.len c.in-Some.ensures.capacity c.in-Some.ensures.permutation (c.in-Some.ensures.heap_order c.self.invariant.high.ordered).0 c.self.invariant.high;
-    }
+pub returns-in_default : goal.returns-in_default
+returns-in_default c =
+    let high : (number price : ℕ) → price_of c.self.inside.prices.0 number ≡ Some price → 16384 ≤ price = rw c.self.view_is c.requires in
+    rw (← c.self.view_is) (stands_for _ _ _ _ _ _ _ c.self-1.given.0 _ (popped_high _ _ _ _ _ _ _ _ _ _ c.pop.result c.self.inside.prices c.pop.ensures.capacity c.pop.ensures.len c.pop.ensures.permutation c.pop.ensures.heap_order c.pop.ensures.unchanged) ∙ ap (left c.self.inside.prices.0) c.in_default.is, none_left _ _ _ _ _ _ _ c.self.inside.prices (rw c.in_default.is at c.pop.ensures.none) high)
 
-pub returns-in-Some : goal.returns-in-Some
-returns-in-Some c =
-    rw (← c.self.view_is)
-    (high_taken _ _ _ _ _ _ _ refl refl c.in-Some.ensures.permutation (c.in-Some.ensures.heap_order c.self.invariant.high.ordered).1 (rw c.self.view_is c.requires) c.self.invariant.high)
-
-pub returns-in-None : goal.returns-in-None
-returns-in-None c =
-    (c.self.view_is, rw (← c.self.view_is) (none_high c.self.inside.prices.items _ _ _ c.in-None.ensures.none (rw c.self.view_is c.requires) c.self.invariant.high))
+pub returns : goal.returns
+returns c =
+    let high : (number price : ℕ) → price_of c.self.inside.prices.0 number ≡ Some price → 16384 ≤ price = rw c.self.view_is c.requires in
+    let taken = taken_high _ _ _ _ _ _ _ _ _ _ c.self.inside.prices refl refl c.in-Some.ensures.permutation c.in-Some.ensures.heap_order high in
+    rw (← c.self.view_is) (record {
+      waited = taken.waited;
+      rest = stands_for _ _ _ _ _ _ _ c.self-1.given.0 _ (popped_high _ _ _ _ _ _ _ _ _ _ c.pop.result c.self.inside.prices c.pop.ensures.capacity c.pop.ensures.len c.pop.ensures.permutation c.pop.ensures.heap_order c.pop.ensures.unchanged) ∙ ap (left c.self.inside.prices.0) c.in-Some.is;
+      least = taken.least;
+    })

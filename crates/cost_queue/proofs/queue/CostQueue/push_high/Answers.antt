@@ -1,21 +1,23 @@
-use Rattle.std.proofs.Common.{◌≡◌, ◌<◌, None, length, refl}
+use Rattle.std.proofs.Common.{◌≡◌, ◌<◌, None, Some, length, slice_set, refl}
 use Rattle.cost_queue.specs.Queues.{price_of}
-use Rattle.cost_queue.proofs.Heaps.{high_pushed, has_room}
-use Rattle.cost_queue.proofs.Linking.{low_kept_more}
+use Rattle.cost_queue.proofs.Whole.{pushed_high, has_place, stands_for}
 use Rattle.cost_queue.proofs.queue.CostQueue.push_high.Goals as goal
 
-pub invariant_of-self : goal.invariant_of-self
-invariant_of-self c =
-    let none : price_of c.self.inside.prices.items c.args.number ≡ None = rw c.self.view_is c.requires.new in
-    let lt : c.args.number < length c.self.inside.prices.items = rw c.self.view_is c.requires.there in
-    record {
-      low = low_kept_more _ _ _ _ _ _ _ lt none c.requires.high c.self.invariant.low;
-      high = high_pushed _ _ _ _ _ _ _ _ _ _ lt none c.requires.high refl refl c.in-Ok.ensures.len c.in-Ok.ensures.capacity c.in-Ok.ensures.permutation c.in-Ok.ensures.heap_order c.self.invariant.high;
-    }
+pub invariant_of-self-inside : goal.invariant_of-self-inside
+invariant_of-self-inside c =
+    let none : price_of c.self.inside.prices.0 c.args.number ≡ None = rw c.self.view_is c.requires.new in
+    let lt : c.args.number < length c.self.inside.prices.0 = rw c.self.view_is c.requires.there in
+    ((slice_set c.self.inside.prices.0 c.args.number (Some c.args.price), pushed_high _ _ _ _ _ _ _ _ _ _ _ _ _ c.self.inside.prices c.push.result lt none c.requires.high refl refl c.push.ensures.succeeds c.push.ensures.len c.push.ensures.capacity c.push.ensures.permutation c.push.ensures.heap_order), tt)
 
 pub unreachable-requires : goal.unreachable-requires
 unreachable-requires c =
-    let none : price_of c.self.inside.prices.items c.args.number ≡ None = rw c.self.view_is c.requires.new in
-    let lt : c.args.number < length c.self.inside.prices.items = rw c.self.view_is c.requires.there in
-    let k = c.in-Err.ensures.succeeds (has_room _ _ _ _ _ lt none c.self.invariant.high) in
+    let none : price_of c.self.inside.prices.0 c.args.number ≡ None = rw c.self.view_is c.requires.new in
+    let lt : c.args.number < length c.self.inside.prices.0 = rw c.self.view_is c.requires.there in
+    let k = c.in-Err.ensures.succeeds (has_place _ _ _ _ _ _ _ _ c.self.inside.prices lt none) in
     cc
+
+pub returns : goal.returns
+returns c =
+    let none : price_of c.self.inside.prices.0 c.args.number ≡ None = rw c.self.view_is c.requires.new in
+    let lt : c.args.number < length c.self.inside.prices.0 = rw c.self.view_is c.requires.there in
+    rw (← c.self.view_is) (stands_for _ _ _ _ _ _ _ c.self-1.given.0 _ (pushed_high _ _ _ _ _ _ _ _ _ _ _ _ _ c.self.inside.prices c.push.result lt none c.requires.high refl refl c.push.ensures.succeeds c.push.ensures.len c.push.ensures.capacity c.push.ensures.permutation c.push.ensures.heap_order))
