@@ -9,4 +9,5 @@ pub mod SameFacts
 pub mod Says
 pub mod Sections
 pub mod Spaced
+pub mod Tested
 pub mod TextBack

@@ -13,10 +13,8 @@ use Rattle.sas_task.specs.declared.contents.Fact.{Fact}
 use Rattle.sas_task.specs.declared.contents.Effect.{Effect}
 use Rattle.task_gen.specs.Printed.{old_value}
 use Rattle.task_gen.specs.Waiting.{Waits, first_is, is_front}
-use Rattle.task_gen.proofs.SameFacts.{same_number, same-true, has-filter, effects_on-append}
-
-same_test : (n : ℕ) → nat_eq n n ≡ true
-same_test n = grind (arith, nat_tests)
+use Rattle.task_gen.proofs.Tested.{same_number, same_test}
+use Rattle.task_gen.proofs.SameFacts.{has-filter, effects_on-append}
 
 -- one more fact waits
 

@@ -10,10 +10,7 @@ use Rattle.sas_task.specs.Facts.{same_fact, has_fact}
 use Rattle.sas_task.specs.Order.{distinct, on_variable, effects_on, is_prevail, prevail, standing_for, standing, arranged, ordered}
 use Rattle.sas_task.specs.declared.contents.Fact.{Fact}
 use Rattle.sas_task.specs.declared.contents.Effect.{Effect}
-use Rattle.task_gen.proofs.Sections.{filter-all}
-
-pub same_number : (a b : ℕ) → nat_eq a b ≡ true → a ≡ b
-same_number a b is = grind (arith, nat_tests, is)
+use Rattle.task_gen.proofs.Tested.{same_number, filter-all}
 
 pub same-true : (f g : Fact) → same_fact f g ≡ true → f ≡ g
 same-true f g same =

@@ -22,6 +22,7 @@ use Rattle.sas_task.specs.declared.contents.Rule.{Rule}
 use Rattle.sas_task.specs.declared.contents.Parts.{Parts}
 use Rattle.task_gen.specs.Printed.{task_lines, task_text}
 use Rattle.task_gen.specs.ReadBack.{has_line_names, IsSameOperator, IsReadBack}
+use Rattle.task_gen.proofs.Tested.{passes_rule}
 use Rattle.task_gen.proofs.Reading.{Reads}
 use Rattle.task_gen.proofs.Sections.{given, reads_task}
 use Rattle.task_gen.proofs.SameFacts.{has-ordered}
@@ -63,10 +64,8 @@ no_defaults : (vs : List Variable) (init : List ℕ) (rules : List Rule) → lis
 no_defaults vs init [] all = refl
 no_defaults vs init (r ∷ rules) all =
     let each = both (is_rule vs init r) (list_all (is_rule vs init) rules) all in
-    let a = both (are_facts vs r.conds) (is_fact vs r.head && (not (is_default init r.head) && is_layered_rule vs init r)) each.0 in
-    let b = both (is_fact vs r.head) (not (is_default init r.head) && is_layered_rule vs init r) a.1 in
-    let c = both (not (is_default init r.head)) (is_layered_rule vs init r) b.1 in
-    rw c.0 (ap (λ rs. r ∷ rs) (no_defaults vs init rules each.1))
+    let other = (passes_rule vs init r each.0).other in
+    rw other (ap (λ rs. r ∷ rs) (no_defaults vs init rules each.1))
 
 in_order_twice : (o : Operator) → IsInOrder o → IsSameOperator o (in_order (in_order o))
 in_order_twice o is = record {
