@@ -1,7 +1,7 @@
 -- The delivery task is admissible, and its preconditions stand in order.
-use Rattle.std.proofs.Common.{◌≡◌, ◌∙◌, sym, ap, refl, ℕ, zero, suc, ◌+◌, ◌*◌, ◌%◌, ◌<◌, ◌≤◌, ◌^◌, List, [], ◌∷◌, ◌++◌, length, Bool, true, false, ◌&&◌, not, nat_eq, nat_le, nat_lt, map, arith, length-append}
-use Rattle.std.specs.Prelude.{flat_map, slice_get, codes, decimal, Some, None}
-use Rattle.std.specs.List.{range_with_len, list_all, zip}
+use Rattle.std.proofs.Common.{◌≡◌, ◌∙◌, ap, refl, ℕ, zero, suc, ◌+◌, ◌<◌, ◌≤◌, List, [], ◌∷◌, ◌++◌, length, true, false, ◌&&◌, not, nat_eq, nat_le, nat_lt, map, arith, length-append}
+use Rattle.std.specs.Prelude.{slice_get, codes, decimal, Some, None}
+use Rattle.std.specs.List.{list_all}
 use Rattle.std.proofs.lemmas.Bool.Decides.{nat_tests}
 use Rattle.std.proofs.lemmas.Fmt.{length-decimal-le}
 use Rattle.std.proofs.lemmas.List.Folds.{list_all-append}
@@ -9,16 +9,15 @@ use Rattle.std.proofs.lemmas.List.{map-append}
 use Rattle.sas_task.specs.Limits.{most_listed, most_variables, most_facts, most_operators, longest_name, highest_cost}
 use Rattle.std.proofs.lemmas.List.Sums.{sum_by-cons}
 use Rattle.sas_task.specs.Tests.{and_true, test-le}
-use Rattle.sas_task.specs.WellFormed.{is_short, is_few, is_variable, is_fact, are_facts, is_derived, is_effect, layer_of, range_of, starts, fact_count}
-use Rattle.sas_task.specs.Order.{in_order, has_few_prevail, prevail_count}
+use Rattle.sas_task.specs.WellFormed.{is_short, is_few, is_variable, is_fact, are_facts, is_derived, is_effect, starts, fact_count}
+use Rattle.sas_task.specs.Order.{in_order, has_few_prevail}
 use Rattle.sas_task.specs.Admissible.{IsAdmissible, is_admissible_operator}
 use Rattle.sas_task.specs.Admission.{admitted}
 use Rattle.sas_task.specs.Refusals.{refusal_of, brought}
 use Rattle.sas_task.specs.declared.contents.Fact.{Fact}
 use Rattle.sas_task.specs.declared.contents.Variable.{Variable}
 use Rattle.sas_task.specs.declared.contents.Operator.{Operator}
-use Rattle.sas_task.specs.declared.contents.Parts.{Parts}
-use Rattle.task_gen.specs.Delivery.{IsPackageCount, places, packages, truck_at, at_place, inside, truck_of, package_of, starts_at, ends_at, fact_of, giving, move_to, load, unload, moves, loads_of, loads, delivery}
+use Rattle.task_gen.specs.Delivery.{IsPackageCount, places, packages, truck_at, at_place, inside, truck_of, package_of, starts_at, ends_at, fact_of, move_to, load, unload, moves, loads_of, loads, delivery}
 use Rattle.task_gen.proofs.Tested.{same_test}
 use Rattle.task_gen.proofs.Ranges.{all-map, all-flat_map, all-zip, map-flat_map, length-map_range, length-flat_map_range, sum_by-map_range, slice_get-map_range}
 

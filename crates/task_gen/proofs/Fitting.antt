@@ -1,14 +1,10 @@
 -- What well-formed parts tell of operators and rules.
-use Rattle.std.proofs.Common.{◌≡◌, ◌∙◌, sym, ap, ℕ, ◌<◌, List, length, Bool, true, ◌&&◌, not, nat_eq, nat_lt, nat_le, Some, arith}
+use Rattle.std.proofs.Common.{◌≡◌, ℕ, ◌<◌, length, Some, arith}
 use Rattle.std.specs.Prelude.{slice_get}
-use Rattle.std.specs.List.{list_all, zip}
-use Rattle.lama_num.specs.Lists.{both, list_all_get}
-use Rattle.sas_task.specs.Limits.{highest_cost}
+use Rattle.lama_num.specs.Lists.{list_all_get}
 use Rattle.sas_task.specs.Tests.{all-one}
 use Rattle.sas_task.specs.Within.{is_within, fact_within, all_facts_within}
-use Rattle.sas_task.specs.WellFormed.{IsWellFormed, is_short, is_few, is_fact, are_facts, is_effect, is_derived, is_operator, is_rule, is_default, is_layered_rule, has_few_conditions}
-use Rattle.sas_task.specs.declared.contents.Variable.{Variable}
-use Rattle.sas_task.specs.declared.contents.Effect.{Effect}
+use Rattle.sas_task.specs.WellFormed.{IsWellFormed, is_effect, is_operator, is_rule}
 use Rattle.sas_task.specs.declared.contents.Operator.{Operator}
 use Rattle.sas_task.specs.declared.contents.Rule.{Rule}
 use Rattle.sas_task.specs.declared.contents.Parts.{Parts}

@@ -1,19 +1,16 @@
 -- What printed lines say.
-use Rattle.std.proofs.Common.{◌≡◌, ◌∙◌, sym, ap, refl, ℕ, zero, suc, ◌+◌, ◌<◌, ◌≤◌, ◌^◌, List, [], ◌∷◌, ◌++◌, length, map, Bool, true, false, ◌&&◌, not, nat_eq, nat_lt, nat_le, Option, Some, None, Result, Ok, Err, arith, append_assoc}
+use Rattle.std.proofs.Common.{◌≡◌, ◌∙◌, ap, refl, ℕ, zero, suc, ◌+◌, ◌<◌, ◌≤◌, ◌^◌, List, [], ◌∷◌, ◌++◌, length, map, Bool, true, false, nat_eq, nat_lt, nat_le, Option, Some, None, arith}
 use Rattle.std.specs.Prelude.{codes, decimal, option_to_list, option_map, if◌then◌else◌, slice_index}
 use Rattle.std.specs.List.{list_all, flat_map}
-use Rattle.std.proofs.lemmas.Bool.Decides.{nat_tests}
 use Rattle.std.proofs.lemmas.List.Folds.{list_all-append}
 use Rattle.std.proofs.lemmas.List.{length-map}
 use Rattle.lama_num.specs.Lists.{both}
-use Rattle.lama_num.specs.Decimals.{decimal_of}
 use Rattle.lama_num.specs.DecimalLaws.{decimal_of-decimal}
-use Rattle.text_lines.specs.Lines.{words_of}
 use Rattle.text_lines.specs.Laws.{is_line}
-use Rattle.sas_task.specs.Limits.{most_variables, most_listed, most_facts, highest_layer, longest_name}
+use Rattle.sas_task.specs.Limits.{most_listed, most_facts, highest_layer}
 use Rattle.sas_task.specs.Tests.{and_true, le-test}
-use Rattle.sas_task.specs.Within.{is_within, fact_within}
-use Rattle.sas_task.specs.WellFormed.{is_short, is_layered, is_few, is_variable, is_fact, are_facts, is_effect, is_derived, range_of}
+use Rattle.sas_task.specs.Within.{fact_within}
+use Rattle.sas_task.specs.WellFormed.{is_short, is_layered, is_variable, is_fact, is_effect, range_of}
 use Rattle.sas_task.specs.Refusals.{is_good_rule}
 use Rattle.sas_task.specs.declared.contents.Fact.{Fact}
 use Rattle.sas_task.specs.declared.contents.Variable.{Variable}
@@ -21,9 +18,8 @@ use Rattle.sas_task.specs.declared.contents.Effect.{Effect}
 use Rattle.sas_task.specs.declared.contents.Rule.{Rule}
 use Rattle.sas_task.specs.declared.refusals.What.{What}
 use Rattle.sas_reader.specs.Formats.{Begin, End, Version, ZeroOrOne, Name, Count, Layer, Range, Below, FactIn, EffectIn, HeadIn}
-use Rattle.sas_reader.specs.Reading.{begin_of, end_of, begin_line, end_line, version_line, metric_line, name_line, count_line, layer_line, range_line, value_line, fact_line, effect_line as read_effect, head_line, one_number, number_or_none as read_number_or_none, pair_at, pairs_at, change_at, head_at, effect_numbers, as_fact, is_narrow, AreVariables}
+use Rattle.sas_reader.specs.Reading.{begin_of, end_of, begin_line, end_line, version_line, metric_line, name_line, count_line, layer_line, range_line, value_line, fact_line, effect_line as read_effect, head_line, one_number, pair_at, pairs_at, change_at, head_at, effect_numbers, as_fact, is_narrow, AreVariables}
 use Rattle.sas_reader.specs.declared.numbers.Pair.{Pair}
-use Rattle.sas_reader.specs.declared.numbers.Change.{Change}
 use Rattle.sas_reader.specs.declared.sections.Section.{Section}
 use Rattle.sas_reader.specs.declared.sections.Section.TheVariants.{Version as InVersion, Metric as InMetric, Variable as InVariable, MutexGroup as InGroup, State as InState, Goal as InGoal, Operator as InOperator, Rule as InRule}
 use Rattle.task_gen.specs.Printed.{spaced, number_or_none, fact_words, effect_line}

@@ -1,17 +1,16 @@
 -- The parts of a task are read back.
 use Rattle.std.proofs.Common.{◌≡◌, ◌∙◌, sym, ap, subst, refl, ℕ, zero, suc, ◌+◌, ◌<◌, ◌≤◌, ◌^◌, List, [], ◌∷◌, ◌++◌, length, map, Bool, true, false, ◌&&◌, not, nat_eq, nat_lt, nat_le, Option, Some, None, arith, append_assoc}
-use Rattle.std.specs.Prelude.{codes, decimal, option_to_list, option_map, if◌then◌else◌, slice_index, slice_get, IsTrue}
-use Rattle.std.specs.List.{list_all, flat_map, zip, filter, filter_map, cons_option, enumerate_from}
-use Rattle.std.proofs.lemmas.Bool.Decides.{nat_tests}
-use Rattle.std.proofs.lemmas.List.{map-id, length-map}
+use Rattle.std.specs.Prelude.{codes, decimal, option_to_list, option_map, if◌then◌else◌, slice_index, slice_get}
+use Rattle.std.specs.List.{list_all, flat_map, zip, filter_map, cons_option, enumerate_from}
+use Rattle.std.proofs.lemmas.List.{map-id}
 use Rattle.std.proofs.lemmas.List.FromFn.{length-enumerate_from}
 use Rattle.std.proofs.lemmas.List.Sums.{sum_by-cons}
 use Rattle.lama_num.specs.Lists.{both, list_all_get}
 use Rattle.sas_task.specs.Limits.{most_variables, most_facts, most_listed, most_operators, most_rules, highest_cost}
 use Rattle.sas_task.specs.Tests.{and_true, le-test, test-le}
-use Rattle.sas_task.specs.WellFormed.{IsWellFormed, is_short, is_few, is_layered, is_variable, is_fact, are_facts, is_effect, is_operator, is_rule, is_default, is_layered_rule, is_derived, has_few_conditions, starts, fact_count, range_of}
+use Rattle.sas_task.specs.WellFormed.{IsWellFormed, is_short, is_few, is_variable, is_fact, are_facts, is_effect, is_operator, is_rule, is_default, is_layered_rule, is_derived, starts, fact_count, range_of}
 use Rattle.sas_task.specs.Within.{fact_within}
-use Rattle.sas_task.specs.Order.{distinct, on_variable, effects_on, prevail, standing_for, standing, arranged, in_order, has_few_prevail}
+use Rattle.sas_task.specs.Order.{distinct, on_variable, prevail, standing_for, arranged, in_order, has_few_prevail}
 use Rattle.sas_task.specs.Refusals.{is_good_rule}
 use Rattle.sas_task.specs.declared.contents.Fact.{Fact}
 use Rattle.sas_task.specs.declared.contents.Variable.{Variable}
@@ -21,7 +20,7 @@ use Rattle.sas_task.specs.declared.contents.Rule.{Rule}
 use Rattle.sas_task.specs.declared.contents.Parts.{Parts}
 use Rattle.sas_task.specs.declared.refusals.What.{What}
 use Rattle.sas_task.specs.declared.refusals.What.TheVariants.{Variables, Groups, GroupFacts, Goals, Operators, Conditions, Effects, Rules, Cost}
-use Rattle.sas_reader.specs.Formats.{Format, Done, Line, ◌>>=◌, Begin, End, Version, ZeroOrOne, Name, Count, Layer, Range, Below, FactIn, EffectIn, HeadIn, Kind, Value, line, times, each}
+use Rattle.sas_reader.specs.Formats.{Format, Done, ◌>>=◌, Begin, End, Version, ZeroOrOne, Name, Count, Layer, Range, Below, FactIn, EffectIn, HeadIn, Kind, Value, line, times, each}
 use Rattle.sas_reader.specs.Reading.{begin_of, end_of, AreVariables}
 use Rattle.sas_reader.specs.TaskText.{version, metric, variable, variables_from, variables, opening, facts, group, groups, initial, state, goal, ends, preconditions, changes, operator, operators, rule, rules, rest, task}
 use Rattle.sas_reader.specs.declared.sections.Section.{Section}
