@@ -1,7 +1,7 @@
 -- The delivery task is admissible, and its preconditions stand in order.
-use Rattle.std.proofs.Common.{◌≡◌, ◌∙◌, sym, ap, refl, ℕ, zero, suc, ◌+◌, ◌*◌, ◌%◌, ◌<◌, ◌≤◌, ◌^◌, List, [], ◌∷◌, ◌++◌, length, Bool, true, false, ◌&&◌, not, nat_eq, nat_le, nat_lt, map, arith, length-append}
-use Rattle.std.specs.Prelude.{flat_map, slice_get, codes, decimal, Some, None}
-use Rattle.std.specs.List.{range_with_len, list_all, zip}
+use Rattle.std.proofs.Common.{◌≡◌, ◌∙◌, ap, refl, ℕ, zero, suc, ◌+◌, ◌<◌, ◌≤◌, List, [], ◌∷◌, ◌++◌, length, true, false, ◌&&◌, not, nat_eq, nat_le, nat_lt, map, arith, length-append}
+use Rattle.std.specs.Prelude.{slice_get, codes, decimal, Some, None}
+use Rattle.std.specs.List.{list_all}
 use Rattle.std.proofs.lemmas.Bool.Decides.{nat_tests}
 use Rattle.std.proofs.lemmas.Fmt.{length-decimal-le}
 use Rattle.std.proofs.lemmas.List.Folds.{list_all-append}
@@ -9,20 +9,17 @@ use Rattle.std.proofs.lemmas.List.{map-append}
 use Rattle.sas_task.specs.Limits.{most_listed, most_variables, most_facts, most_operators, longest_name, highest_cost}
 use Rattle.std.proofs.lemmas.List.Sums.{sum_by-cons}
 use Rattle.sas_task.specs.Tests.{and_true, test-le}
-use Rattle.sas_task.specs.WellFormed.{is_short, is_few, is_variable, is_fact, are_facts, is_derived, is_effect, layer_of, range_of, starts, fact_count}
-use Rattle.sas_task.specs.Order.{in_order, has_few_prevail, prevail_count}
+use Rattle.sas_task.specs.WellFormed.{is_short, is_few, is_variable, is_fact, are_facts, is_derived, is_effect, starts, fact_count}
+use Rattle.sas_task.specs.Order.{in_order, has_few_prevail}
 use Rattle.sas_task.specs.Admissible.{IsAdmissible, is_admissible_operator}
 use Rattle.sas_task.specs.Admission.{admitted}
 use Rattle.sas_task.specs.Refusals.{refusal_of, brought}
 use Rattle.sas_task.specs.declared.contents.Fact.{Fact}
 use Rattle.sas_task.specs.declared.contents.Variable.{Variable}
 use Rattle.sas_task.specs.declared.contents.Operator.{Operator}
-use Rattle.sas_task.specs.declared.contents.Parts.{Parts}
-use Rattle.task_gen.specs.Delivery.{IsPackageCount, places, packages, truck_at, at_place, inside, truck_of, package_of, starts_at, ends_at, fact_of, giving, move_to, load, unload, moves, loads_of, loads, delivery}
+use Rattle.task_gen.specs.Delivery.{IsPackageCount, places, packages, truck_at, at_place, inside, truck_of, package_of, starts_at, ends_at, fact_of, move_to, load, unload, moves, loads_of, loads, delivery}
+use Rattle.task_gen.proofs.Tested.{same_test}
 use Rattle.task_gen.proofs.Ranges.{all-map, all-flat_map, all-zip, map-flat_map, length-map_range, length-flat_map_range, sum_by-map_range, slice_get-map_range}
-
-same : (k : ℕ) → nat_eq k k ≡ true
-same k = grind (arith, nat_tests)
 
 lt-test : (a b : ℕ) → a < b → nat_lt a b ≡ true
 lt-test a b lt = grind (arith, nat_tests, lt)
@@ -143,7 +140,7 @@ starts_good n =
     let inits = length-map_range (starts_at n) 1 n in
     let items = length-map_range (package_of n) 1 n in
     let first = truck_long n in
-    and_true (nat_eq (length (0 ∷ map (starts_at n) (packages n))) (length (variables n))) _ (rw (inits, items) (same (suc n)))
+    and_true (nat_eq (length (0 ∷ map (starts_at n) (packages n))) (length (variables n))) _ (rw (inits, items) (same_test (suc n)))
     (and_true (nat_lt 0 (length (truck_of n).values)) _ (lt-test 0 (length (truck_of n).values) (omega arith))
     (all-zip (λ p. nat_lt p.0 (length p.1.values)) (starts_at n) (package_of n) 1 n (λ k from to. let long = package_long n k in lt-test (starts_at n k) (length (package_of n k).values) (omega arith))))
 
@@ -157,7 +154,7 @@ goal_good n low =
 
 move_in_order : (i j : ℕ) → in_order (move_to i j) ≡ move_to i j
 unfolding move_to
-move_in_order i j = rw (same i) refl
+move_in_order i j = rw (same_test i) refl
 
 low : (k : ℕ) → 1 ≤ k → nat_eq 0 k ≡ false
 low k some = grind (arith, nat_tests, some)
@@ -167,11 +164,11 @@ high k some = grind (arith, nat_tests, some)
 
 load_in_order : (n k i : ℕ) → 1 ≤ k → in_order (load n k i) ≡ load n k i
 unfolding load
-load_in_order n k i some = grind (arith, nat_tests, low k some, high k some, same k, same i)
+load_in_order n k i some = grind (arith, nat_tests, low k some, high k some, same_test k, same_test i)
 
 unload_in_order : (n k i : ℕ) → 1 ≤ k → in_order (unload n k i) ≡ unload n k i
 unfolding unload
-unload_in_order n k i some = grind (arith, nat_tests, low k some, high k some, same k, same (n + 1))
+unload_in_order n k i some = grind (arith, nat_tests, low k some, high k some, same_test k, same_test (n + 1))
 
 in_order_moves : (n : ℕ) → map in_order (moves n) ≡ moves n
 in_order_moves n = map-flat_map in_order (λ i. move_to i (i + 1) ∷ move_to (i + 1) i ∷ []) 0 n (λ i from to. rw (move_in_order i (i + 1), move_in_order (i + 1) i) refl)
@@ -184,15 +181,15 @@ in_order_loads n =
 -- few prevail conditions: the operator has at most two preconditions
 move_prevails : (i j : ℕ) → has_few_prevail (move_to i j) ≡ true
 unfolding move_to
-move_prevails i j = simp (same i) refl
+move_prevails i j = simp (same_test i) refl
 
 load_prevails : (n k i : ℕ) → 1 ≤ k → has_few_prevail (load n k i) ≡ true
 unfolding load
-load_prevails n k i some = grind (arith, nat_tests, low k some, high k some, same k, same i)
+load_prevails n k i some = grind (arith, nat_tests, low k some, high k some, same_test k, same_test i)
 
 unload_prevails : (n k i : ℕ) → 1 ≤ k → has_few_prevail (unload n k i) ≡ true
 unfolding unload
-unload_prevails n k i some = grind (arith, nat_tests, low k some, high k some, same k, same (n + 1))
+unload_prevails n k i some = grind (arith, nat_tests, low k some, high k some, same_test k, same_test (n + 1))
 
 good_operator : (vs : List Variable) (o : Operator) → is_short o.name ≡ true → has_few_prevail o ≡ true → list_all (is_fact vs) o.pre ≡ true → is_few o.effects ≡ true → list_all (is_effect vs) o.effects ≡ true → nat_le o.cost highest_cost ≡ true → is_admissible_operator vs o ≡ true
 good_operator vs o name prevails pre few_effects effects cost =

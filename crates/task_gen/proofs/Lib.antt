@@ -2,6 +2,7 @@ pub mod Delivered
 pub mod Fitting
 pub mod Grown
 pub mod LineNames
+pub mod NamesRead
 pub mod Queues
 pub mod Ranges
 pub mod Reading
@@ -9,4 +10,5 @@ pub mod SameFacts
 pub mod Says
 pub mod Sections
 pub mod Spaced
+pub mod Tested
 pub mod TextBack

@@ -1,17 +1,17 @@
 -- The names of the delivery task are such as lines can hold.
-use Rattle.std.proofs.Common.{◌≡◌, ◌∙◌, ap, refl, ℕ, suc, ◌+◌, ◌<◌, ◌≤◌, ◌^◌, List, [], ◌∷◌, ◌++◌, length, reverse, map, Bool, true, false, ◌&&◌, not, nat_eq, nat_lt, arith}
+use Rattle.std.proofs.Common.{◌≡◌, ◌∙◌, refl, ℕ, suc, ◌+◌, ◌≤◌, List, [], ◌∷◌, ◌++◌, length, reverse, map, true, ◌&&◌, not, nat_eq, nat_lt, arith}
 use Rattle.std.specs.Prelude.{codes, decimal}
-use Rattle.std.specs.List.{list_all, flat_map}
+use Rattle.std.specs.List.{list_all}
 use Rattle.std.proofs.lemmas.Bool.Decides.{nat_tests}
 use Rattle.std.proofs.lemmas.List.Folds.{list_all-append}
 use Rattle.lama_num.specs.Lists.{both}
 use Rattle.text_lines.specs.Lines.{is_some_bytes}
-use Rattle.text_lines.specs.Laws.{has_no_feed, begins_bare, is_line}
+use Rattle.text_lines.specs.Laws.{has_no_feed, begins_bare}
 use Rattle.sas_task.specs.Tests.{and_true}
 use Rattle.task_gen.specs.Delivery.{IsPackageCount, places, packages, truck_at, at_place, inside, truck_of, package_of, move_to, load, unload, moves, loads_of, loads, delivery}
 use Rattle.task_gen.specs.ReadBack.{is_line_name, has_line_names}
 use Rattle.task_gen.proofs.Ranges.{all-map, all-flat_map}
-use Rattle.task_gen.proofs.Spaced.{is_inner, is_word, is_word-decimal, no_feed-word, ends-append, ends-word}
+use Rattle.task_gen.proofs.Spaced.{is_inner, is_word-decimal, no_feed-word, ends-append, ends-word}
 
 -- a text that may end a name
 record IsEnd (text : List ℕ) : Type 0 where

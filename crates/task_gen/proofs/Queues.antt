@@ -1,22 +1,20 @@
 -- Queues of preconditions, step by step.
-use Rattle.std.proofs.Common.{◌≡◌, ◌≢◌, ◌∙◌, sym, ap, subst, refl, ℕ, zero, suc, ◌+◌, ◌<◌, ◌≤◌, List, [], ◌∷◌, ◌++◌, length, take, drop, map, get_or, set, Bool, true, false, ◌&&◌, ◌||◌, not, nat_eq, nat_lt, Option, Some, None, arith, append-nil, get_or-set_same, get_or-set_other, length-append}
+use Rattle.std.proofs.Common.{◌≡◌, ◌≢◌, ◌∙◌, sym, ap, subst, refl, ℕ, zero, suc, ◌+◌, ◌<◌, ◌≤◌, List, [], ◌∷◌, ◌++◌, length, take, drop, map, get_or, set, Bool, true, false, ◌&&◌, ◌||◌, not, nat_eq, nat_lt, Option, Some, None, arith, append-nil, get_or-set_same, get_or-set_other}
 use Rattle.std.specs.Prelude.{slice_get, option_map, option_to_list}
 use Rattle.std.specs.List.{list_all, filter, enumerate_from}
 use Rattle.std.proofs.lemmas.Bool.Decides.{nat_tests}
 use Rattle.std.proofs.lemmas.List.{length-set, length-take-le, length_push, get_or_push, get_or_append_left, take_more, take_all, drop_more, drop_all, map-append}
 use Rattle.std.proofs.lemmas.List.Elements.{filter-append, filter_agree}
 use Rattle.std.proofs.lemmas.Option.{slice_get-get_or}
-use Rattle.lama_num.specs.Lists.{both, list_all_get}
+use Rattle.lama_num.specs.Lists.{list_all_get}
 use Rattle.sas_task.specs.Facts.{same_fact, has_fact}
-use Rattle.sas_task.specs.Order.{distinct, on_variable, effects_on, is_prevail, prevail, standing_for}
+use Rattle.sas_task.specs.Order.{distinct, on_variable, effects_on, is_prevail, prevail}
 use Rattle.sas_task.specs.declared.contents.Fact.{Fact}
 use Rattle.sas_task.specs.declared.contents.Effect.{Effect}
 use Rattle.task_gen.specs.Printed.{old_value}
 use Rattle.task_gen.specs.Waiting.{Waits, first_is, is_front}
-use Rattle.task_gen.proofs.SameFacts.{same_number, same-true, has-filter, effects_on-append}
-
-same_test : (n : ℕ) → nat_eq n n ≡ true
-same_test n = grind (arith, nat_tests)
+use Rattle.task_gen.proofs.Tested.{same_number, same_test}
+use Rattle.task_gen.proofs.SameFacts.{has-filter, effects_on-append}
 
 -- one more fact waits
 

@@ -1,19 +1,15 @@
 -- The order of preconditions keeps their facts.
-use Rattle.std.proofs.Common.{◌≡◌, ◌∙◌, sym, ap, subst, refl, ℕ, zero, suc, ◌+◌, ◌<◌, ◌≤◌, List, [], ◌∷◌, ◌++◌, length, take, drop, Bool, true, false, ◌&&◌, ◌||◌, not, nat_eq, nat_lt, Option, Some, None, arith, append_assoc, append-nil, length-append}
+use Rattle.std.proofs.Common.{◌≡◌, ◌∙◌, sym, ap, refl, ℕ, zero, suc, ◌+◌, ◌<◌, List, [], ◌∷◌, ◌++◌, length, take, drop, Bool, true, false, ◌&&◌, ◌||◌, not, nat_eq, Option, Some, None, arith, append_assoc, append-nil, length-append}
 use Rattle.std.specs.Prelude.{slice_get}
-use Rattle.std.specs.List.{list_all, filter, filter_map, cons_option, enumerate_from}
-use Rattle.std.proofs.lemmas.Bool.Decides.{nat_tests}
-use Rattle.std.proofs.lemmas.List.{take_at, drop_all, length_push, length-take}
+use Rattle.std.specs.List.{filter, filter_map, cons_option, enumerate_from}
+use Rattle.std.proofs.lemmas.List.{take_at, length_push}
 use Rattle.std.proofs.lemmas.List.Elements.{filter-append}
 use Rattle.lama_num.specs.Lists.{both, list_all_get}
 use Rattle.sas_task.specs.Facts.{same_fact, has_fact}
 use Rattle.sas_task.specs.Order.{distinct, on_variable, effects_on, is_prevail, prevail, standing_for, standing, arranged, ordered}
 use Rattle.sas_task.specs.declared.contents.Fact.{Fact}
 use Rattle.sas_task.specs.declared.contents.Effect.{Effect}
-use Rattle.task_gen.proofs.Sections.{filter-all}
-
-pub same_number : (a b : ℕ) → nat_eq a b ≡ true → a ≡ b
-same_number a b is = grind (arith, nat_tests, is)
+use Rattle.task_gen.proofs.Tested.{same_number, filter-all}
 
 pub same-true : (f g : Fact) → same_fact f g ≡ true → f ≡ g
 same-true f g same =

@@ -1,19 +1,16 @@
 -- What printed lines say.
-use Rattle.std.proofs.Common.{◌≡◌, ◌∙◌, sym, ap, refl, ℕ, zero, suc, ◌+◌, ◌<◌, ◌≤◌, ◌^◌, List, [], ◌∷◌, ◌++◌, length, map, Bool, true, false, ◌&&◌, not, nat_eq, nat_lt, nat_le, Option, Some, None, Result, Ok, Err, arith, append_assoc}
+use Rattle.std.proofs.Common.{◌≡◌, ◌∙◌, ap, refl, ℕ, zero, suc, ◌+◌, ◌<◌, ◌≤◌, ◌^◌, List, [], ◌∷◌, ◌++◌, length, map, Bool, true, false, nat_eq, nat_lt, nat_le, Option, Some, None, arith}
 use Rattle.std.specs.Prelude.{codes, decimal, option_to_list, option_map, if◌then◌else◌, slice_index}
 use Rattle.std.specs.List.{list_all, flat_map}
-use Rattle.std.proofs.lemmas.Bool.Decides.{nat_tests}
 use Rattle.std.proofs.lemmas.List.Folds.{list_all-append}
 use Rattle.std.proofs.lemmas.List.{length-map}
 use Rattle.lama_num.specs.Lists.{both}
-use Rattle.lama_num.specs.Decimals.{decimal_of}
 use Rattle.lama_num.specs.DecimalLaws.{decimal_of-decimal}
-use Rattle.text_lines.specs.Lines.{words_of}
 use Rattle.text_lines.specs.Laws.{is_line}
-use Rattle.sas_task.specs.Limits.{most_variables, most_listed, most_facts, highest_layer, longest_name}
+use Rattle.sas_task.specs.Limits.{most_listed, most_facts, highest_layer}
 use Rattle.sas_task.specs.Tests.{and_true, le-test}
-use Rattle.sas_task.specs.Within.{is_within, fact_within}
-use Rattle.sas_task.specs.WellFormed.{is_short, is_layered, is_few, is_variable, is_fact, are_facts, is_effect, is_derived, range_of}
+use Rattle.sas_task.specs.Within.{fact_within}
+use Rattle.sas_task.specs.WellFormed.{is_short, is_layered, is_variable, is_fact, is_effect, range_of}
 use Rattle.sas_task.specs.Refusals.{is_good_rule}
 use Rattle.sas_task.specs.declared.contents.Fact.{Fact}
 use Rattle.sas_task.specs.declared.contents.Variable.{Variable}
@@ -21,13 +18,13 @@ use Rattle.sas_task.specs.declared.contents.Effect.{Effect}
 use Rattle.sas_task.specs.declared.contents.Rule.{Rule}
 use Rattle.sas_task.specs.declared.refusals.What.{What}
 use Rattle.sas_reader.specs.Formats.{Begin, End, Version, ZeroOrOne, Name, Count, Layer, Range, Below, FactIn, EffectIn, HeadIn}
-use Rattle.sas_reader.specs.Reading.{begin_of, end_of, begin_line, end_line, version_line, metric_line, name_line, count_line, layer_line, range_line, value_line, fact_line, effect_line as read_effect, head_line, one_number, number_or_none as read_number_or_none, pair_at, pairs_at, change_at, head_at, effect_numbers, as_fact, is_narrow, AreVariables}
+use Rattle.sas_reader.specs.Reading.{begin_of, end_of, begin_line, end_line, version_line, metric_line, name_line, count_line, layer_line, range_line, value_line, fact_line, effect_line as read_effect, head_line, one_number, pair_at, pairs_at, change_at, head_at, effect_numbers, as_fact, is_narrow, AreVariables}
 use Rattle.sas_reader.specs.declared.numbers.Pair.{Pair}
-use Rattle.sas_reader.specs.declared.numbers.Change.{Change}
 use Rattle.sas_reader.specs.declared.sections.Section.{Section}
 use Rattle.sas_reader.specs.declared.sections.Section.TheVariants.{Version as InVersion, Metric as InMetric, Variable as InVariable, MutexGroup as InGroup, State as InState, Goal as InGoal, Operator as InOperator, Rule as InRule}
 use Rattle.task_gen.specs.Printed.{spaced, number_or_none, fact_words, effect_line}
 use Rattle.task_gen.specs.ReadBack.{is_line_name}
+use Rattle.task_gen.proofs.Tested.{lt-from_test, few_values, PassesEffect, passes_effect}
 use Rattle.task_gen.proofs.Reading.{Says}
 use Rattle.task_gen.proofs.Spaced.{is_word, words_of-spaced, is_line-spaced, is_word-decimal, decimal_no_minus}
 
@@ -118,16 +115,8 @@ record IsSmall (f : Fact) : Type 0 where
 
 ranges_few : (vs : List Variable) (var : ℕ) → list_all is_variable vs ≡ true → range_of vs var ≤ most_listed
 ranges_few [] var all = omega arith
-ranges_few (v ∷ vs) zero all =
-    let is = (both (is_variable v) (list_all is_variable vs) all).0 in
-    let layered = (both (is_short v.name) _ is).1 in
-    let some = (both (is_layered v.layer (length v.values)) _ layered).1 in
-    let few = (both (nat_lt 0 (length v.values)) _ some).1 in
-    le-test (length v.values) most_listed (both (is_few v.values) _ few).0
+ranges_few (v ∷ vs) zero all = few_values v (both (is_variable v) (list_all is_variable vs) all).0
 ranges_few (v ∷ vs) (suc var) all = ranges_few vs var (both (is_variable v) (list_all is_variable vs) all).1
-
-lt-from_test : (a b : ℕ) → nat_lt a b ≡ true → a < b
-lt-from_test a b is = grind (arith, nat_tests, is)
 
 small_fact : (vs : List Variable) (f : Fact) → AreVariables vs → is_fact vs f ≡ true → IsSmall f
 small_fact vs f are is =
@@ -198,23 +187,10 @@ change vs e (Some val) are is own =
     let old = (small_fact vs f are (both (is_fact vs f) true own).0).val in
     rw (decimal_of-decimal e.fact.var small.var, decimal_no_minus val old, decimal_of-decimal val old, decimal_of-decimal e.fact.val small.val) refl
 
-record IsEffect (vs : List Variable) (e : Effect) : Type 0 where
-  few : nat_le (length e.conds) most_listed ≡ true
-  conds : list_all (is_fact vs) e.conds ≡ true
-  fact : is_fact vs e.fact ≡ true
-  free : not (is_derived vs e.fact.var) ≡ true
-
-tests_of_effect : (vs : List Variable) (e : Effect) → is_effect vs e ≡ true → IsEffect vs e
-tests_of_effect vs e is =
-    let a = both (are_facts vs e.conds) (is_fact vs e.fact && not (is_derived vs e.fact.var)) is in
-    let b = both (is_few e.conds) (list_all (is_fact vs) e.conds) a.0 in
-    let c = both (is_fact vs e.fact) (not (is_derived vs e.fact.var)) a.1 in
-    record { few = b.0; conds = b.1; fact = c.0; free = c.1 }
-
 abbrev effect_words : Option ℕ → Effect → List (List ℕ)
 effect_words old e = decimal (length e.conds) ∷ (flat_map fact_words e.conds ++ decimal e.fact.var ∷ number_or_none old ∷ decimal e.fact.val ∷ [])
 
-effect_is_words : (vs : List Variable) (e : Effect) (old : Option ℕ) → AreVariables vs → IsEffect vs e → list_all (is_fact vs) (option_to_list (own_fact e old)) ≡ true → list_all is_word (effect_words old e) ≡ true
+effect_is_words : (vs : List Variable) (e : Effect) (old : Option ℕ) → AreVariables vs → PassesEffect vs e → list_all (is_fact vs) (option_to_list (own_fact e old)) ≡ true → list_all is_word (effect_words old e) ≡ true
 effect_is_words vs e old are is own =
     let le = le-test (length e.conds) most_listed is.few in
     let small = small_fact vs e.fact are is.fact in
@@ -225,7 +201,7 @@ effect_is_words vs e old are is own =
     (and_true (is_word (number_or_none old)) _ (small_old vs e old are own)
     (and_true (is_word (decimal e.fact.val)) true (is_word-decimal e.fact.val small.val) refl))))
 
-numbers_of_effect : (vs : List Variable) (e : Effect) (old : Option ℕ) → AreVariables vs → IsEffect vs e → list_all (is_fact vs) (option_to_list (own_fact e old)) ≡ true →
+numbers_of_effect : (vs : List Variable) (e : Effect) (old : Option ℕ) → AreVariables vs → PassesEffect vs e → list_all (is_fact vs) (option_to_list (own_fact e old)) ≡ true →
     effect_numbers (spaced (effect_words old e)) ≡ Some (map as_pair e.conds, record { var = e.fact.var; old = old; new = e.fact.val })
 unfolding effect_numbers
 numbers_of_effect vs e old are is own =
@@ -236,7 +212,7 @@ numbers_of_effect vs e old are is own =
 pub effects : (vs : List Variable) (e : Effect) (old : Option ℕ) → AreVariables vs → is_effect vs e ≡ true → list_all (is_fact vs) (option_to_list (own_fact e old)) ≡ true → Says (EffectIn vs) (effect_line old e) (own_fact e old, e)
 unfolding effect_line read_effect
 effects vs e old are is own =
-    let tests = tests_of_effect vs e is in
+    let tests = passes_effect vs e is in
     record {
       bare = is_line-spaced (effect_words old e) (effect_is_words vs e old are tests own);
       says = λ n. rw (numbers_of_effect vs e old are tests own, length-map e.conds as_pair, tests.few, facts_of_pairs e.conds, tests.conds, tests.free, own, tests.fact) refl;

@@ -1,17 +1,16 @@
 -- The parts of a task are read back.
 use Rattle.std.proofs.Common.{◌≡◌, ◌∙◌, sym, ap, subst, refl, ℕ, zero, suc, ◌+◌, ◌<◌, ◌≤◌, ◌^◌, List, [], ◌∷◌, ◌++◌, length, map, Bool, true, false, ◌&&◌, not, nat_eq, nat_lt, nat_le, Option, Some, None, arith, append_assoc}
-use Rattle.std.specs.Prelude.{codes, decimal, option_to_list, option_map, if◌then◌else◌, slice_index, slice_get, IsTrue}
-use Rattle.std.specs.List.{list_all, flat_map, zip, filter, filter_map, cons_option, enumerate_from}
-use Rattle.std.proofs.lemmas.Bool.Decides.{nat_tests}
-use Rattle.std.proofs.lemmas.List.{map-id, length-map}
+use Rattle.std.specs.Prelude.{codes, decimal, option_to_list, option_map, if◌then◌else◌, slice_index, slice_get}
+use Rattle.std.specs.List.{list_all, flat_map, zip, filter_map, cons_option, enumerate_from}
+use Rattle.std.proofs.lemmas.List.{map-id}
 use Rattle.std.proofs.lemmas.List.FromFn.{length-enumerate_from}
 use Rattle.std.proofs.lemmas.List.Sums.{sum_by-cons}
 use Rattle.lama_num.specs.Lists.{both, list_all_get}
 use Rattle.sas_task.specs.Limits.{most_variables, most_facts, most_listed, most_operators, most_rules, highest_cost}
 use Rattle.sas_task.specs.Tests.{and_true, le-test, test-le}
-use Rattle.sas_task.specs.WellFormed.{IsWellFormed, is_short, is_few, is_layered, is_variable, is_fact, are_facts, is_effect, is_operator, is_rule, is_default, is_layered_rule, is_derived, has_few_conditions, starts, fact_count, range_of}
+use Rattle.sas_task.specs.WellFormed.{IsWellFormed, is_short, is_few, is_variable, is_fact, are_facts, is_effect, is_operator, is_rule, is_default, is_layered_rule, is_derived, starts, fact_count, range_of}
 use Rattle.sas_task.specs.Within.{fact_within}
-use Rattle.sas_task.specs.Order.{distinct, on_variable, effects_on, prevail, standing_for, standing, arranged, in_order, has_few_prevail}
+use Rattle.sas_task.specs.Order.{distinct, on_variable, prevail, standing_for, arranged, in_order, has_few_prevail}
 use Rattle.sas_task.specs.Refusals.{is_good_rule}
 use Rattle.sas_task.specs.declared.contents.Fact.{Fact}
 use Rattle.sas_task.specs.declared.contents.Variable.{Variable}
@@ -21,13 +20,14 @@ use Rattle.sas_task.specs.declared.contents.Rule.{Rule}
 use Rattle.sas_task.specs.declared.contents.Parts.{Parts}
 use Rattle.sas_task.specs.declared.refusals.What.{What}
 use Rattle.sas_task.specs.declared.refusals.What.TheVariants.{Variables, Groups, GroupFacts, Goals, Operators, Conditions, Effects, Rules, Cost}
-use Rattle.sas_reader.specs.Formats.{Format, Done, Line, ◌>>=◌, Begin, End, Version, ZeroOrOne, Name, Count, Layer, Range, Below, FactIn, EffectIn, HeadIn, Kind, Value, line, times, each}
+use Rattle.sas_reader.specs.Formats.{Format, Done, ◌>>=◌, Begin, End, Version, ZeroOrOne, Name, Count, Layer, Range, Below, FactIn, EffectIn, HeadIn, Kind, Value, line, times, each}
 use Rattle.sas_reader.specs.Reading.{begin_of, end_of, AreVariables}
 use Rattle.sas_reader.specs.TaskText.{version, metric, variable, variables_from, variables, opening, facts, group, groups, initial, state, goal, ends, preconditions, changes, operator, operators, rule, rules, rest, task}
 use Rattle.sas_reader.specs.declared.sections.Section.{Section}
 use Rattle.sas_reader.specs.declared.sections.Section.TheVariants.{Version as InVersion, Metric as InMetric, Variable as InVariable, MutexGroup as InGroup, State as InState, Goal as InGoal, Operator as InOperator, Rule as InRule}
 use Rattle.task_gen.specs.Printed.{spaced, part, counted, version_lines, metric_lines, number_or_none, variable_lines, fact_words, fact_lines, group_lines, state_lines, goal_lines, effect_line, old_value, effect_lines, change_lines, operator_lines, rule_lines, task_lines}
 use Rattle.task_gen.specs.ReadBack.{is_line_name, has_line_names}
+use Rattle.task_gen.proofs.Tested.{lt-from_test, same_number, all-filter, filter-all, few_values, passes_variable, passes_operator, passes_rule, passes_start}
 use Rattle.task_gen.proofs.Reading.{Says, Reads, reads_done, reads_line, reads_bind, reads_bind_line, reads_map, reads_times, reads_lines}
 use Rattle.task_gen.proofs.Says.{begins, ends as ends_says, three, zero_or_one, names, counts, layers, ranges, values, facts as fact_says, own_fact, effects as effect_says, head_words, heads}
 
@@ -75,15 +75,12 @@ reads_variable : (var before : ℕ) (v : Variable) → has_names v ≡ true → 
 unfolding variable variable_lines
 reads_variable var before v named is all =
     let own = both (is_line_name v.name) (list_all is_line_name v.values) named in
-    let a = both (is_short v.name) (is_layered v.layer (length v.values) && (nat_lt 0 (length v.values) && (is_few v.values && list_all is_short v.values))) is in
-    let b = both (is_layered v.layer (length v.values)) (nat_lt 0 (length v.values) && (is_few v.values && list_all is_short v.values)) a.1 in
-    let c = both (nat_lt 0 (length v.values)) (is_few v.values && list_all is_short v.values) b.1 in
-    let d = both (is_few v.values) (list_all is_short v.values) c.1 in
+    let passes = passes_variable v is in
     reads_line (Begin InVariable) _ (begin_of InVariable) tt _ v (begins InVariable)
-    (reads_line Name _ v.name v.name _ v (names v.name own.0 a.0)
-    (reads_line Layer _ (number_or_none v.layer) v.layer _ v (layers v.layer (length v.values) b.0)
-    (reads_line (Range var v.layer before) _ (decimal (length v.values)) (length v.values) _ v (ranges var v.layer before (length v.values) b.0 c.0 d.0 (test-le (before + length v.values) most_facts all))
-    (reads_bind (times (length v.values) (line Name)) _ v.values (end_of InVariable ∷ []) v.values v (reads_names v.values own.1 d.1)
+    (reads_line Name _ v.name v.name _ v (names v.name own.0 passes.name)
+    (reads_line Layer _ (number_or_none v.layer) v.layer _ v (layers v.layer (length v.values) passes.layered)
+    (reads_line (Range var v.layer before) _ (decimal (length v.values)) (length v.values) _ v (ranges var v.layer before (length v.values) passes.layered passes.some passes.few (test-le (before + length v.values) most_facts all))
+    (reads_bind (times (length v.values) (line Name)) _ v.values (end_of InVariable ∷ []) v.values v (reads_names v.values own.1 passes.values)
     (reads_line (End InVariable) _ (end_of InVariable) tt [] v (ends_says InVariable) (reads_done v))))))
 
 reads_variables_from : (var before : ℕ) (vs : List Variable) → list_all has_names vs ≡ true → list_all is_variable vs ≡ true → before + fact_count vs ≤ most_facts → Reads (variables_from (length vs) var before) (flat_map variable_lines vs) vs
@@ -131,16 +128,6 @@ reads_goal vs fs are is = reads_part InGoal (facts Goals vs) (fact_lines fs) fs 
 
 -- the initial state
 
-pub lt-from_test : (a b : ℕ) → nat_lt a b ≡ true → a < b
-lt-from_test a b is = grind (arith, nat_tests, is)
-
-few_values : (v : Variable) → is_variable v ≡ true → length v.values ≤ most_listed
-few_values v is =
-    let a = both (is_short v.name) (is_layered v.layer (length v.values) && (nat_lt 0 (length v.values) && (is_few v.values && list_all is_short v.values))) is in
-    let b = both (is_layered v.layer (length v.values)) (nat_lt 0 (length v.values) && (is_few v.values && list_all is_short v.values)) a.1 in
-    let c = both (nat_lt 0 (length v.values)) (is_few v.values && list_all is_short v.values) b.1 in
-    le-test (length v.values) most_listed (both (is_few v.values) (list_all is_short v.values) c.1).0
-
 reads_values : (vs : List Variable) (init : List ℕ) → list_all is_variable vs ≡ true → length init ≡ length vs → list_all (λ p. nat_lt p.0 (length p.1.values)) (zip init vs) ≡ true → Reads (each initial vs) (map decimal init) init
 unfolding each
 reads_values [] [] are long all = reads_done []
@@ -154,33 +141,13 @@ reads_values (v ∷ vs) (x ∷ init) are long all =
     reads_line (Below (length v.values)) _ (decimal x) x (map decimal init) (x ∷ init) (values (length v.values) x tests.0 (omega arith))
     (reads_map (each initial vs) (λ ys. x ∷ ys) (map decimal init) init (reads_values vs init good.1 (omega (arith, long)) tests.1))
 
-pub same_length : (a b : ℕ) → nat_eq a b ≡ true → a ≡ b
-same_length a b is = grind (arith, nat_tests, is)
-
 reads_state : (vs : List Variable) (init : List ℕ) → AreVariables vs → starts vs init ≡ true → Reads (state vs) (state_lines init) init
 unfolding state state_lines
 reads_state vs init are is =
-    let tests = both (nat_eq (length init) (length vs)) (list_all (λ p. nat_lt p.0 (length p.1.values)) (zip init vs)) is in
-    reads_part InState (each initial vs) (map decimal init) init (reads_values vs init are.each (same_length (length init) (length vs) tests.0) tests.1)
+    let passes = passes_start vs init is in
+    reads_part InState (each initial vs) (map decimal init) init (reads_values vs init are.each passes.long passes.values)
 
 -- operators
-
-all-filter : {X : Type 0} (p q : X → Bool) (xs : List X) → list_all p xs ≡ true → list_all p (filter q xs) ≡ true
-all-filter p q [] all = refl
-all-filter p q (x ∷ xs) all =
-    let each = both (p x) (list_all p xs) all in
-    elim (q x) as (λ b. q x ≡ b → list_all p (filter q (x ∷ xs)) ≡ true) [
-      | true ↦ λ is. rw (is, each.0) (all-filter p q xs each.1)
-      | false ↦ λ is. rw is (all-filter p q xs each.1)
-    ] refl
-
-pub filter-all : {X : Type 0} (p : X → Bool) (xs : List X) → list_all p (filter p xs) ≡ true
-filter-all p [] = refl
-filter-all p (x ∷ xs) =
-    elim (p x) as (λ b. p x ≡ b → list_all p (filter p (x ∷ xs)) ≡ true) [
-      | true ↦ λ is. rw (is, is) (filter-all p xs)
-      | false ↦ λ is. rw is (filter-all p xs)
-    ] refl
 
 all-enumerate_from : {X : Type 0} (p : X → Bool) (n : ℕ) (xs : List X) → list_all p xs ≡ true → list_all (λ e. p e.1) (enumerate_from n xs) ≡ true
 all-enumerate_from p n [] all = refl
@@ -195,7 +162,7 @@ stands_own pre all e = found (standing_for pre all e) refl
     found : (o : Option Fact) → standing_for pre all e ≡ o → own_fact e.1 (option_map (λ f. f.val) o) ≡ o
     found None at = refl
     found (Some f) at =
-        let var = same_length f.var e.1.fact.var (list_all_get (λ f. nat_eq f.var e.1.fact.var) (on_variable e.1.fact.var pre) _ f (filter-all (λ f. nat_eq f.var e.1.fact.var) pre) at) in
+        let var = same_number f.var e.1.fact.var (list_all_get (λ f. nat_eq f.var e.1.fact.var) (on_variable e.1.fact.var pre) _ f (filter-all (λ f. nat_eq f.var e.1.fact.var) pre) at) in
         ap (λ v. Some (record { var = v; val = f.val })) (sym var)
 
 stands_fact : (vs : List Variable) (pre : List Fact) (all : List Effect) (e : ℕ × Effect) → list_all (is_fact vs) pre ≡ true → list_all (is_fact vs) (option_to_list (standing_for pre all e)) ≡ true
@@ -253,19 +220,15 @@ pub record IsPrintable (metric : Bool) (vs : List Variable) (o : Operator) : Typ
 reads_operator : (metric : Bool) (vs : List Variable) (o : Operator) → AreVariables vs → IsPrintable metric vs o → Reads (operator metric vs) (operator_lines o) (in_order o)
 unfolding operator operator_lines
 reads_operator metric vs o are is =
-    let a = both (is_short o.name) (has_few_conditions o && (list_all (is_fact vs) o.pre && (is_few o.effects && (list_all (is_effect vs) o.effects && nat_le o.cost highest_cost)))) is.good in
-    let b = both (has_few_conditions o) (list_all (is_fact vs) o.pre && (is_few o.effects && (list_all (is_effect vs) o.effects && nat_le o.cost highest_cost))) a.1 in
-    let c = both (list_all (is_fact vs) o.pre) (is_few o.effects && (list_all (is_effect vs) o.effects && nat_le o.cost highest_cost)) b.1 in
-    let d = both (is_few o.effects) (list_all (is_effect vs) o.effects && nat_le o.cost highest_cost) c.1 in
-    let e = both (list_all (is_effect vs) o.effects) (nat_le o.cost highest_cost) d.1 in
-    let le = le-test o.cost highest_cost e.1 in
+    let passes = passes_operator vs o is.good in
+    let le = le-test o.cost highest_cost passes.cost in
     let few_prevail : nat_le (length (prevail o.pre o.effects)) most_listed ≡ true = subst (λ fs. nat_le (length (prevail fs o.effects)) most_listed ≡ true) is.once is.prevails in
     let made : Operator = record { name = o.name; pre = arranged o.pre o.effects; effects = o.effects; cost = if metric then o.cost else 1 } in
     let same : made ≡ in_order o = ap (λ k. record { name = o.name; pre = arranged o.pre o.effects; effects = o.effects; cost = k }) (own_cost metric o.cost is.cost) ∙ ap (λ fs. record o { pre = arranged fs o.effects }) (sym is.once) in
     reads_line (Begin InOperator) _ (begin_of InOperator) tt _ (in_order o) (begins InOperator)
-    (reads_line Name _ o.name o.name _ (in_order o) (names o.name is.name a.0)
-    (reads_bind_line (changes vs) _ (change_lines o.pre o.effects) (decimal o.cost) (end_of InOperator ∷ []) (arranged o.pre o.effects, o.effects) (in_order o) (reads_changes vs o.pre o.effects are c.0 few_prevail d.0 e.0)
-    (reads_line (Count Cost highest_cost) _ (decimal o.cost) o.cost (end_of InOperator ∷ []) (in_order o) (counts Cost highest_cost o.cost e.1 (omega arith))
+    (reads_line Name _ o.name o.name _ (in_order o) (names o.name is.name passes.name)
+    (reads_bind_line (changes vs) _ (change_lines o.pre o.effects) (decimal o.cost) (end_of InOperator ∷ []) (arranged o.pre o.effects, o.effects) (in_order o) (reads_changes vs o.pre o.effects are passes.pre few_prevail passes.few passes.effects)
+    (reads_line (Count Cost highest_cost) _ (decimal o.cost) o.cost (end_of InOperator ∷ []) (in_order o) (counts Cost highest_cost o.cost passes.cost (omega arith))
     (reads_line (End InOperator) _ (end_of InOperator) tt [] (in_order o) (ends_says InOperator)
     (subst (λ x. Reads (Done made) [] x) same (reads_done made))))))
   where
@@ -298,15 +261,13 @@ good_rule vs init r other layered = chosen (is_default init r.head) other
 reads_rule : (vs : List Variable) (init : List ℕ) (r : Rule) → AreVariables vs → starts vs init ≡ true → is_rule vs init r ≡ true → Reads (rule vs init) (rule_lines init r) r
 unfolding rule rule_lines
 reads_rule vs init r are start is =
-    let a = both (are_facts vs r.conds) (is_fact vs r.head && (not (is_default init r.head) && is_layered_rule vs init r)) is in
-    let b = both (is_fact vs r.head) (not (is_default init r.head) && is_layered_rule vs init r) a.1 in
-    let c = both (not (is_default init r.head)) (is_layered_rule vs init r) b.1 in
-    let tests = both (nat_eq (length init) (length vs)) (list_all (λ p. nat_lt p.0 (length p.1.values)) (zip init vs)) start in
-    let within = lt-from_test r.head.var (length vs) (fact_within vs r.head b.0) in
-    let default = default_fact vs init r.head.var (same_length (length init) (length vs) tests.0) tests.1 within in
+    let passes = passes_rule vs init r is in
+    let starts = passes_start vs init start in
+    let within = lt-from_test r.head.var (length vs) (fact_within vs r.head passes.head) in
+    let default = default_fact vs init r.head.var starts.long starts.values within in
     reads_line (Begin InRule) _ (begin_of InRule) tt _ r (begins InRule)
-    (reads_bind_line (facts Conditions vs) _ (fact_lines r.conds) (spaced (head_words init r.head)) (end_of InRule ∷ []) r.conds r (reads_facts Conditions vs r.conds are a.0)
-    (reads_line (HeadIn vs init r.conds) _ (spaced (head_words init r.head)) r (end_of InRule ∷ []) r (heads vs init r are b.0 default (good_rule vs init r c.0 c.1))
+    (reads_bind_line (facts Conditions vs) _ (fact_lines r.conds) (spaced (head_words init r.head)) (end_of InRule ∷ []) r.conds r (reads_facts Conditions vs r.conds are passes.conds)
+    (reads_line (HeadIn vs init r.conds) _ (spaced (head_words init r.head)) r (end_of InRule ∷ []) r (heads vs init r are passes.head default (good_rule vs init r passes.other passes.layered))
     (reads_line (End InRule) _ (end_of InRule) tt [] r (ends_says InRule) (reads_done r))))
 
 reads_rules : (vs : List Variable) (init : List ℕ) (rs : List Rule) → AreVariables vs → starts vs init ≡ true → length rs ≤ most_rules → list_all (is_rule vs init) rs ≡ true → Reads (rules vs init) (counted (rule_lines init) rs) rs
@@ -356,7 +317,7 @@ printable parts formed named i o at = record {
   good = list_all_get (is_operator parts.variables) parts.operators i o formed.operators at;
   prevails = list_all_get has_few_prevail parts.operators i o formed.conditions at;
   once = (formed.order i o at).once;
-  cost = λ unit. same_length o.cost 1 (list_all_get (λ o. nat_eq o.cost 1) parts.operators i o (formed.costs unit) at);
+  cost = λ unit. same_number o.cost 1 (list_all_get (λ o. nat_eq o.cost 1) parts.operators i o (formed.costs unit) at);
 }
 
 pub reads_task : (parts : Parts) → IsWellFormed parts → has_line_names parts ≡ true → Reads task (task_lines parts) (given parts)

@@ -1,7 +1,7 @@
 -- Lines of words with one blank between them are cut into these words again.
-use Rattle.std.proofs.Common.{◌≡◌, ◌∙◌, sym, ap, refl, ℕ, zero, suc, ◌+◌, ◌<◌, ◌≤◌, ◌^◌, List, [], ◌∷◌, ◌++◌, length, reverse, Bool, true, false, ◌&&◌, not, nat_eq, nat_lt, arith}
+use Rattle.std.proofs.Common.{◌≡◌, ◌∙◌, ap, refl, ℕ, ◌<◌, ◌^◌, List, [], ◌∷◌, ◌++◌, length, reverse, Bool, true, false, ◌&&◌, not, nat_eq, arith}
 use Rattle.std.specs.Prelude.{codes, decimal}
-use Rattle.std.specs.List.{list_all, join_with_byte}
+use Rattle.std.specs.List.{list_all}
 use Rattle.std.specs.Char.{is_ascii_digit}
 use Rattle.std.specs.Str.{all_ascii_digits, bytes_eq}
 use Rattle.std.proofs.lemmas.Bool.Decides.{nat_tests}
@@ -10,7 +10,7 @@ use Rattle.std.proofs.lemmas.List.{reverse-append}
 use Rattle.std.proofs.lemmas.List.Folds.{list_all-append}
 use Rattle.lama_num.specs.Lists.{both}
 use Rattle.lama_num.specs.DecimalLaws.{decimal_numerals}
-use Rattle.text_lines.specs.Lines.{words_of, pieces_of, is_blank, is_margin, onto, is_some_bytes}
+use Rattle.text_lines.specs.Lines.{words_of, pieces_of, is_blank, is_margin, is_some_bytes}
 use Rattle.text_lines.specs.Laws.{has_no_feed, begins_bare, is_line}
 use Rattle.sas_task.specs.Tests.{and_true, all-one}
 use Rattle.task_gen.specs.Printed.{spaced}

@@ -1,20 +1,19 @@
 -- The canonical text is a text of the task.
-use Rattle.std.proofs.Common.{◌≡◌, ◌∙◌, sym, ap, subst, refl, ℕ, zero, suc, ◌+◌, ◌<◌, ◌≤◌, List, [], ◌∷◌, ◌++◌, length, map, Bool, true, false, ◌&&◌, not, Option, Some, None, Result, Ok, Err, arith, append-nil}
-use Rattle.std.specs.Prelude.{slice_get, IsTrue}
+use Rattle.std.proofs.Common.{◌≡◌, ◌∙◌, ap, refl, ℕ, suc, ◌+◌, ◌≤◌, List, [], ◌∷◌, length, map, true, not, Option, Some, None, Result, Ok, Err, append-nil}
+use Rattle.std.specs.Prelude.{slice_get}
 use Rattle.std.specs.List.{list_all, filter, AllZip}
 use Rattle.std.proofs.lemmas.Option.{some_pair_parts}
-use Rattle.lama_num.specs.Gives.{◌>>=◌}
 use Rattle.lama_num.specs.Lists.{both}
 use Rattle.text_lines.specs.Lines.{Place, lines_of}
-use Rattle.text_lines.specs.Laws.{text_of, lines_of-text_of}
+use Rattle.text_lines.specs.Laws.{lines_of-text_of}
 use Rattle.sas_reader.specs.Formats.{Format, Done, Line, value_of}
 use Rattle.sas_reader.specs.Reading.{most_bytes}
 use Rattle.sas_reader.specs.TaskText.{task}
 use Rattle.sas_reader.specs.Walks.{walk, next_by}
 use Rattle.sas_reader.specs.FirstFault.{after, IsTextOf}
 use Rattle.sas_reader.specs.declared.faults.SasFault.{SasFault}
-use Rattle.sas_task.specs.WellFormed.{IsWellFormed, is_rule, is_fact, are_facts, is_default, is_layered_rule}
-use Rattle.sas_task.specs.Order.{distinct, ordered, in_order, has_one_value_each, IsInOrder}
+use Rattle.sas_task.specs.WellFormed.{IsWellFormed, is_rule, is_default}
+use Rattle.sas_task.specs.Order.{ordered, in_order, has_one_value_each, IsInOrder}
 use Rattle.sas_task.specs.Refusals.{brought}
 use Rattle.sas_task.specs.declared.contents.Variable.{Variable}
 use Rattle.sas_task.specs.declared.contents.Operator.{Operator}
@@ -22,7 +21,7 @@ use Rattle.sas_task.specs.declared.contents.Rule.{Rule}
 use Rattle.sas_task.specs.declared.contents.Parts.{Parts}
 use Rattle.task_gen.specs.Printed.{task_lines, task_text}
 use Rattle.task_gen.specs.ReadBack.{has_line_names, IsSameOperator, IsReadBack}
-use Rattle.task_gen.proofs.Reading.{Reads}
+use Rattle.task_gen.proofs.Tested.{passes_rule}
 use Rattle.task_gen.proofs.Sections.{given, reads_task}
 use Rattle.task_gen.proofs.SameFacts.{has-ordered}
 
@@ -63,10 +62,8 @@ no_defaults : (vs : List Variable) (init : List ℕ) (rules : List Rule) → lis
 no_defaults vs init [] all = refl
 no_defaults vs init (r ∷ rules) all =
     let each = both (is_rule vs init r) (list_all (is_rule vs init) rules) all in
-    let a = both (are_facts vs r.conds) (is_fact vs r.head && (not (is_default init r.head) && is_layered_rule vs init r)) each.0 in
-    let b = both (is_fact vs r.head) (not (is_default init r.head) && is_layered_rule vs init r) a.1 in
-    let c = both (not (is_default init r.head)) (is_layered_rule vs init r) b.1 in
-    rw c.0 (ap (λ rs. r ∷ rs) (no_defaults vs init rules each.1))
+    let other = (passes_rule vs init r each.0).other in
+    rw other (ap (λ rs. r ∷ rs) (no_defaults vs init rules each.1))
 
 in_order_twice : (o : Operator) → IsInOrder o → IsSameOperator o (in_order (in_order o))
 in_order_twice o is = record {

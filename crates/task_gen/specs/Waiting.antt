@@ -5,7 +5,6 @@ use Rattle.sas_task.specs.Facts.{same_fact}
 use Rattle.sas_task.specs.Order.{distinct, on_variable}
 use Rattle.sas_task.specs.Within.{is_within}
 use Rattle.sas_task.specs.declared.contents.Fact.{Fact}
-use Rattle.sas_task.specs.declared.contents.Effect.{Effect}
 use Rattle.sas_task.specs.declared.contents.Operator.{Operator}
 
 -- There is a queue for each variable. In it those facts of a list wait that are on the variable, in their order.

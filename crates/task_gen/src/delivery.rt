@@ -1,12 +1,13 @@
 // The delivery task.
 ghost use Rattle.std.specs.Prelude.{◌≡◌, ◌+◌, ◌≤◌, ◌++◌, [], ◌∷◌, map, codes};
-ghost use Rattle.std.specs.Prelude.{IfOk, OnOk};
+ghost use Rattle.std.specs.Prelude.{IfOk, OnOk, IsTrue};
 ghost use Rattle.std.specs.String.{string_bytes};
 ghost use Rattle.task_gen.specs.Delivery.{places, packages, starts_at, ends_at, fact_of, giving};
 ghost use Rattle.task_gen.specs.Delivery.{truck_at, at_place, inside, IsPackageCount};
 ghost use Rattle.task_gen.specs.Delivery.{truck_of, package_of};
 ghost use Rattle.task_gen.specs.Delivery.{move_to as the_move, load as the_load, unload as the_unload};
 ghost use Rattle.task_gen.specs.Delivery.{moves, loads, loads_of, delivery};
+ghost use Rattle.task_gen.specs.ReadBack.{has_line_names};
 
 use lama_num::{NoMemory, Seq};
 use sas_task::{Effect, Fact, Operator, Parts, Task, Variable, accepted};
@@ -294,7 +295,9 @@ fn parts(alloc: Global, n: u32) -> Result<Parts, AllocError>
 #[tactic(auto, using(crate::proofs::Delivered::delivery_accepted, crate::proofs::Delivered::delivery_brought))]
 pub fn generate(alloc: Global, n: u32) -> Result<Task, NoMemory>
     requires { IsPackageCount n }
-    ensures { IfOk result (λ task. task ≡ delivery n) }
+    ensures task { IfOk result (λ task. task ≡ delivery n) }
+    // Lines can hold its names, so that its text is read back.
+    ensures names { IfOk result (λ task. IsTrue (has_line_names task)) }
 {
     let parts = parts(alloc, n)?;
     Ok(accepted(parts))

@@ -6,9 +6,11 @@
 #![tactic(auto)]
 
 mod delivery;
+mod law;
 mod lines;
 mod printing;
 mod waiting;
 
 pub use delivery::generate;
+pub use law::names_that_are_read;
 pub use printing::print;

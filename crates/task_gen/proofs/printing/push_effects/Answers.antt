@@ -1,5 +1,4 @@
 use Rattle.std.proofs.Common.{◌∙◌, ap, ◌++◌, map}
-use Rattle.std.specs.List.{zip}
 use Rattle.text_lines.specs.Laws.{text_of}
 use Rattle.task_gen.specs.Printed.{effect_line}
 use Rattle.task_gen.proofs.Grown.{effects_grown, zip_all}

@@ -1,4 +1,4 @@
-use Rattle.std.proofs.Common.{◌≡◌, ◌∙◌, sym, ap, subst, ◌<◌, ◌++◌, length}
+use Rattle.std.proofs.Common.{◌∙◌, sym, ap, subst, ◌<◌, ◌++◌, length}
 use Rattle.std.specs.Prelude.{slice_get}
 use Rattle.text_lines.specs.Laws.{text_of}
 use Rattle.task_gen.specs.Printed.{counted, version_lines, metric_lines, variable_lines, group_lines, state_lines, goal_lines, operator_lines, rule_lines, task_lines}

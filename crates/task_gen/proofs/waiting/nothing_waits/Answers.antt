@@ -1,4 +1,4 @@
-use Rattle.std.proofs.Common.{◌≡◌, ◌∙◌, sym, ap, subst, [], length, ◌+◌}
+use Rattle.std.proofs.Common.{◌∙◌, sym, ap, subst, [], length, ◌+◌}
 use Rattle.std.specs.VecDeque.{deque_items}
 use Rattle.std.proofs.lemmas.List.{length_push}
 use Rattle.task_gen.specs.Waiting.{Waits}

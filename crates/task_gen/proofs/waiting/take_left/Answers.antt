@@ -1,7 +1,7 @@
-use Rattle.std.proofs.Common.{◌≡◌, ◌∙◌, sym, ap, subst, refl, ◌++◌, ◌∷◌, [], ◌+◌, set, get_or, length, arith}
+use Rattle.std.proofs.Common.{◌∙◌, sym, refl, get_or, length, arith}
 use Rattle.std.specs.VecDeque.{deque_items}
 use Rattle.sas_task.specs.declared.contents.Fact.{Fact}
-use Rattle.task_gen.proofs.Queues.{Left, left_keeps, left_takes, within_at}
+use Rattle.task_gen.proofs.Queues.{left_keeps, left_takes, within_at}
 use Rattle.task_gen.proofs.waiting.take_left.Goals.{then-is_first+in_ok-push, else-is_first}
 use Rattle.task_gen.proofs.waiting.take_left.Goals as goal
 

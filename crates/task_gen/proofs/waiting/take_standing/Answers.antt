@@ -1,4 +1,4 @@
-use Rattle.std.proofs.Common.{◌≡◌, ◌∙◌, sym, ap, subst, ◌++◌, ◌∷◌, [], ◌+◌, set, length, arith}
+use Rattle.std.proofs.Common.{◌∙◌, sym, ap, subst, ◌++◌, ◌∷◌, [], ◌+◌, set, length, arith}
 use Rattle.std.specs.VecDeque.{deque_items}
 use Rattle.task_gen.proofs.Queues.{Stood, stood_none, stood_more, within_at}
 use Rattle.task_gen.proofs.waiting.take_standing.Goals as goal
