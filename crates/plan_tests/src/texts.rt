@@ -1,6 +1,4 @@
 // Plan files as texts: what is written, and what is read of texts from outside.
-ghost use Rattle.std.specs.Prelude.{◌≡◌, ◌<◌, ◌^◌, length, EachIndex, slice_index};
-
 use lama_num::Seq;
 use plan_text::{PlanLines, PlanTextError, PlanTextFault, lines, write};
 use sas_reader::read;
@@ -10,35 +8,30 @@ use std::process::Abort;
 use std::test::Fail;
 use test_tasks::{at_the_goal, three_places};
 
-fn expect_text(
-    rt: &impl Abort,
-    alloc: Global,
-    task: &Task,
-    ops: &[u32],
-    want: &[u8],
-) -> Result<(), Fail>
-    requires ops { EachIndex ops.now (λ k. slice_index ops.now k < length task.now.operators) }
-    requires few { length ops.now < 2 ^ 32 }
-{
-    let text = write(alloc, task, ops)?;
-    assert_eq!(rt; text.as_slice(), want);
-    Ok(())
+/// Whether the first two steps of a task of three operators are written so.
+fn steps_are(alloc: Global, task: &Task, want: &[u8]) -> Result<bool, Fail> {
+    if task.parts().operators.len() != 3 {
+        return Ok(false);
+    }
+    let text = write(alloc, task, &[0, 1])?;
+    Ok(text.as_slice() == want)
 }
 
-fn expect_two_steps(rt: &impl Abort, alloc: Global, task: &Task, want: &[u8]) -> Result<(), Fail> {
-    assert_eq!(rt; task.parts().operators.len(), 3);
-    expect_text(rt, alloc, task, &[0, 1], want)
+/// The same of the task that a text tells.
+fn are_written(alloc: Global, task: &[u8], want: &[u8]) -> Result<bool, Fail> {
+    let task = read(alloc, task)?;
+    steps_are(alloc, &task, want)
 }
 
 #[test]
 fn two_steps_are_written(rt: HostRuntime) -> Result<(), Fail> {
-    let task = read(rt.alloc(), three_places().as_bytes())?;
-    let general = b"(go01)\n(go12)\n; cost = 2 (general cost)\n";
-    assert_eq!(rt; general.len(), 40);
-    expect_two_steps(&rt, rt.alloc(), &task, general)?;
-    let cheap = read(rt.alloc(), at_the_goal().as_bytes())?;
-    let unit = b"(go01)\n(go12)\n; cost = 2 (unit cost)\n";
-    expect_two_steps(&rt, rt.alloc(), &cheap, unit)
+    let alloc = rt.alloc();
+    let general: &[u8] = b"(go01)\n(go12)\n; cost = 2 (general cost)\n";
+    let unit: &[u8] = b"(go01)\n(go12)\n; cost = 2 (unit cost)\n";
+    assert!(rt; general.len() == 40);
+    assert!(rt; are_written(alloc, three_places().as_bytes(), general)?);
+    assert!(rt; are_written(alloc, at_the_goal().as_bytes(), unit)?);
+    Ok(())
 }
 
 fn are_names(names: &[Seq<u8>], want: &[&[u8]]) -> bool {
