@@ -1,5 +1,7 @@
-//! Tests of packed states: what is packed is read again, whole and one by one.
+//! Tests of packed states, which are read again whole and one by one, and of visited states.
 #![tactic(auto)]
 
 #[cfg(test)]
 mod packing;
+#[cfg(test)]
+mod visited;
