@@ -28,7 +28,12 @@ impl Model for Axioms {
 
     ghost Value = { Tables };
 
-    ghost view = { λ a. record { derived = a.derived; rules = a.rules; waiting = a.waiting.items; room = vec_capacity a.waiting } };
+    ghost view = { λ a. record {
+      derived = a.derived;
+      rules = a.rules;
+      waiting = a.waiting.items;
+      room = vec_capacity a.waiting;
+    } };
 }
 
 impl Axioms {
@@ -47,8 +52,8 @@ impl Axioms {
         })
     }
 
-    /// Settles values, one for each variable: derived variables get their defaults and then what the
-    /// rules give, layer by layer upwards; the others stay. Takes no memory.
+    /// Settles values, one for each variable: derived variables get their defaults and then what
+    /// the rules give, layer by layer upwards; the others stay. Takes no memory.
     pub fn settle(&mut self, task: &Task, values: &mut [u32])
         requires same_task { IsFor self.old task.now }
         requires long { length values.old ≡ length task.now.variables }

@@ -1,5 +1,6 @@
 // The flat tables of a task.
-ghost use Rattle.std.specs.Prelude.{◌≡◌, ◌<◌, ◌^◌, ◌∷◌, ◌++◌, [], ℕ, length, map, IfOk, OnOk, IsTrue, Some, slice_set, replicate, if◌then◌else◌};
+ghost use Rattle.std.specs.Prelude.{◌≡◌, ◌<◌, ◌^◌, ◌∷◌, ◌++◌, [], ℕ, length, map, IfOk, OnOk};
+ghost use Rattle.std.specs.Prelude.{IsTrue, Some, slice_set, replicate, if◌then◌else◌};
 ghost use Rattle.std.specs.List.{list_all};
 ghost use Rattle.std.specs.List.Sorted.{IsPermutation, IsNonDecreasingBy};
 ghost use Rattle.lama_num.specs.Rows.{row_at};
@@ -8,7 +9,8 @@ ghost use Rattle.sas_task.specs.Within.{is_within};
 ghost use Rattle.sas_task.specs.States.{is_layer};
 ghost use Rattle.axiom_eval.specs.Rules.{AreRules};
 ghost use Rattle.axiom_eval.specs.Defaults.{AreDerived};
-ghost use Rattle.axiom_eval.specs.Building.{AreSlots, AddsWatcher, AreWatchers, head_of, conds_of as the_conds_of, is_rule_below};
+ghost use Rattle.axiom_eval.specs.Building.{AreSlots, AddsWatcher, AreWatchers, head_of};
+ghost use Rattle.axiom_eval.specs.Building.{conds_of as the_conds_of, is_rule_below};
 
 use crate::tables::{Derived, Head, Rules};
 use lama_num::{NoMemory, Rows, Seq};
@@ -112,7 +114,8 @@ fn is_of_layer(variables: &[Variable], var: u32, layer: u32) -> bool
 /// Adds a place to the list of a variable.
 fn add_to(lists: &mut Vec<Seq<u32>>, var: usize, place: u32) -> Result<(), AllocError>
     requires { var < length lists.old.items }
-    ensures { OnOk result (lists.new.items ≡ slice_set lists.old.items var (row_at lists.old.items var ++ place ∷ [])) }
+    ensures { OnOk result (lists.new.items ≡
+        slice_set lists.old.items var (row_at lists.old.items var ++ place ∷ [])) }
 {
     lists[var].push(place)
 }
@@ -126,7 +129,11 @@ fn watch(
     lists: &mut Vec<Seq<u32>>,
 ) -> Result<(), AllocError>
     requires { var < length lists.old.items }
-    ensures { OnOk result (lists.new.items ≡ (if is_layer (layer_of variables.now var) layer then slice_set lists.old.items var (row_at lists.old.items var ++ place ∷ []) else lists.old.items)) }
+    ensures { OnOk result
+        (lists.new.items ≡
+        (if is_layer (layer_of variables.now var) layer
+        then slice_set lists.old.items var (row_at lists.old.items var ++ place ∷ [])
+        else lists.old.items)) }
 {
     if is_of_layer(variables, var, layer) {
         return add_to(lists, var as usize, place);
@@ -143,7 +150,8 @@ fn watch_all(
     lists: &mut Vec<Seq<u32>>,
 ) -> Result<(), AllocError>
     requires { IsTrue (list_all (is_within (length lists.old.items)) facts.now) }
-    ensures { OnOk result (AddsWatcher variables.now layer place facts.now lists.old.items lists.new.items) }
+    ensures { OnOk result
+        (AddsWatcher variables.now layer place facts.now lists.old.items lists.new.items) }
 {
     for fact in facts {
         match watch(variables, layer, place, fact.var, lists) {
@@ -173,7 +181,8 @@ fn watchers_of(
     requires few { length heads.now < 2 ^ 32 }
     requires long { length conds.now ≡ length heads.now }
     requires within { IsTrue (list_all (list_all (is_within (length variables.now))) conds.now) }
-    ensures { IfOk result (λ rows. AreWatchers variables.now heads.now conds.now (length heads.now) rows) }
+    ensures { IfOk result
+        (λ rows. AreWatchers variables.now heads.now conds.now (length heads.now) rows) }
 {
     let mut lists = no_lists(alloc, variables.len())?;
     for (place, head) in heads.iter().enumerate() {

@@ -1,10 +1,13 @@
 // Settling one layer: its rules are tried once, and again where a variable of the layer in their
 // conditions was given.
-ghost use Rattle.std.specs.Prelude.{◌≡◌, ◌<◌, ◌≤◌, ◌+◌, ◌++◌, ◌∷◌, [], ℕ, List, length, IsTrue, Bool, false, nat_le, nat_eq, nat_lt, ◌&&◌, slice_set, vec_len, vec_capacity, if◌then◌else◌};
+ghost use Rattle.std.specs.Prelude.{◌≡◌, ◌<◌, ◌≤◌, ◌+◌, ◌++◌, ◌∷◌, [], ℕ, List, length, IsTrue};
+ghost use Rattle.std.specs.Prelude.{Bool, false, nat_le, nat_eq, nat_lt, ◌&&◌, slice_set, vec_len};
+ghost use Rattle.std.specs.Prelude.{vec_capacity, if◌then◌else◌};
 ghost use Rattle.sas_task.specs.WellFormed.{IsWellFormed};
 ghost use Rattle.sas_task.specs.States.{rounds_of, size_of};
 ghost use Rattle.axiom_eval.specs.Layers.{open_of};
-ghost use Rattle.axiom_eval.specs.Rules.{AreRules, AreWithin, is_due, is_watching, layer_at, given_at};
+ghost use Rattle.axiom_eval.specs.Rules.{AreRules, AreWithin, is_due, is_watching, layer_at};
+ghost use Rattle.axiom_eval.specs.Rules.{given_at};
 ghost use Rattle.axiom_eval.specs.Settling.{IsHearing, IsBetween};
 
 use crate::tables::Rules;
@@ -24,9 +27,14 @@ fn is_due_at(rules: &Rules, place: usize, values: &[u32]) -> bool
 fn try_rule(rules: &Rules, place: usize, values: &mut [u32], waiting: &mut Vec<u32>)
     requires place { place < length rules.now.heads }
     requires within { AreWithin (length values.old) rules.now }
-    requires room { IsTrue (is_due rules.now place values.old) → vec_len waiting.old < vec_capacity waiting.old }
-    ensures values { values.new ≡ (if is_due rules.now place values.old then slice_set values.old (given_at rules.now place).var (given_at rules.now place).val else values.old) }
-    ensures waiting { waiting.new.items ≡ (if is_due rules.now place values.old then waiting.old.items ++ (given_at rules.now place).var ∷ [] else waiting.old.items) }
+    requires room { IsTrue (is_due rules.now place values.old) →
+        vec_len waiting.old < vec_capacity waiting.old }
+    ensures values { values.new ≡
+        (if is_due rules.now place values.old
+        then slice_set values.old (given_at rules.now place).var (given_at rules.now place).val
+        else values.old) }
+    ensures waiting { waiting.new.items ≡ (if is_due rules.now place values.old
+        then waiting.old.items ++ (given_at rules.now place).var ∷ [] else waiting.old.items) }
     ensures room { vec_capacity waiting.old ≤ vec_capacity waiting.new }
 {
     if is_due_at(rules, place, values) {
@@ -57,9 +65,12 @@ fn try_each(
     requires from { from < length rules.now.heads }
     requires first { layer_at rules.now from ≡ layer }
     requires room { length parts.now.variables ≤ vec_capacity waiting.old }
-    requires hearing { IsHearing parts.now rules.now layer values.old waiting.old.items (λ place. nat_le from place) }
-    ensures hearing { IsHearing parts.now rules.now layer values.new waiting.new.items (λ place. false) }
-    ensures between { (start : List ℕ) → IsBetween parts.now layer start values.old → IsBetween parts.now layer start values.new }
+    requires hearing { IsHearing parts.now rules.now layer values.old waiting.old.items
+        (λ place. nat_le from place) }
+    ensures hearing { IsHearing parts.now rules.now layer values.new waiting.new.items
+        (λ place. false) }
+    ensures between { (start : List ℕ) → IsBetween parts.now layer start values.old →
+        IsBetween parts.now layer start values.new }
     ensures room { length parts.now.variables ≤ vec_capacity waiting.new }
     ensures within { result ≤ length rules.now.heads }
     ensures those { (place : ℕ) → from ≤ place → place < result → layer_at rules.now place ≡ layer }
@@ -88,11 +99,15 @@ fn look_at(
     requires rules { AreRules parts.now rules.now }
     requires var { var < length parts.now.variables }
     requires room { length parts.now.variables ≤ vec_capacity waiting.old }
-    requires hearing { IsHearing parts.now rules.now layer values.old waiting.old.items (is_watching rules.now var) }
-    ensures hearing { IsHearing parts.now rules.now layer values.new waiting.new.items (λ place. false) }
-    ensures between { (start : List ℕ) → IsBetween parts.now layer start values.old → IsBetween parts.now layer start values.new }
+    requires hearing { IsHearing parts.now rules.now layer values.old waiting.old.items
+        (is_watching rules.now var) }
+    ensures hearing { IsHearing parts.now rules.now layer values.new waiting.new.items
+        (λ place. false) }
+    ensures between { (start : List ℕ) → IsBetween parts.now layer start values.old →
+        IsBetween parts.now layer start values.new }
     ensures room { length parts.now.variables ≤ vec_capacity waiting.new }
-    ensures left { length waiting.new.items + open_of parts.now layer values.new ≡ length waiting.old.items + open_of parts.now layer values.old }
+    ensures left { length waiting.new.items + open_of parts.now layer values.new ≡
+        length waiting.old.items + open_of parts.now layer values.old }
 {
     let watching = rules.watchers.row(var as usize);
     for place in watching {
@@ -107,9 +122,11 @@ fn look_at_all(parts: &Parts, rules: &Rules, layer: u32, values: &mut [u32], wai
     requires formed { IsWellFormed parts.now }
     requires rules { AreRules parts.now rules.now }
     requires room { length parts.now.variables ≤ vec_capacity waiting.old }
-    requires hearing { IsHearing parts.now rules.now layer values.old waiting.old.items (λ place. false) }
+    requires hearing { IsHearing parts.now rules.now layer values.old waiting.old.items
+        (λ place. false) }
     ensures hearing { IsHearing parts.now rules.now layer values.new [] (λ place. false) }
-    ensures between { (start : List ℕ) → IsBetween parts.now layer start values.old → IsBetween parts.now layer start values.new }
+    ensures between { (start : List ℕ) → IsBetween parts.now layer start values.old →
+        IsBetween parts.now layer start values.new }
     ensures room { length parts.now.variables ≤ vec_capacity waiting.new }
     ensures none { waiting.new.items ≡ [] }
 {
@@ -129,17 +146,21 @@ pub fn settle_layer(
     requires formed { IsWellFormed parts.now }
     requires rules { AreRules parts.now rules.now }
     requires from { from < length rules.now.heads }
-    requires first { (place : ℕ) → place < from → layer_at rules.now place < layer_at rules.now from }
+    requires first { (place : ℕ) → place < from →
+        layer_at rules.now place < layer_at rules.now from }
     requires long { length values.old ≡ length parts.now.variables }
     requires room { length parts.now.variables ≤ vec_capacity waiting.old }
     requires none { waiting.old.items ≡ [] }
-    ensures values { values.new ≡ rounds_of parts.now (layer_at rules.now from) (size_of parts.now.variables (layer_at rules.now from)) values.old }
+    ensures values { values.new ≡ rounds_of parts.now (layer_at rules.now from)
+        (size_of parts.now.variables (layer_at rules.now from)) values.old }
     ensures room { length parts.now.variables ≤ vec_capacity waiting.new }
     ensures none { waiting.new.items ≡ [] }
     ensures onwards { from < result }
     ensures within { result ≤ length rules.now.heads }
-    ensures those { (place : ℕ) → from ≤ place → place < result → layer_at rules.now place ≡ layer_at rules.now from }
-    ensures end { result < length rules.now.heads → layer_at rules.now from < layer_at rules.now result }
+    ensures those { (place : ℕ) → from ≤ place → place < result →
+        layer_at rules.now place ≡ layer_at rules.now from }
+    ensures end { result < length rules.now.heads →
+        layer_at rules.now from < layer_at rules.now result }
 {
     let layer = rules.heads[from].layer;
     let end = try_each(parts, rules, layer, from, values, waiting);

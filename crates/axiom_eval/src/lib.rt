@@ -11,4 +11,3 @@ mod settling;
 mod tables;
 
 pub use axioms::Axioms;
-pub use sas_task::all_hold;

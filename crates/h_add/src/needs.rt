@@ -90,7 +90,8 @@ pub fn needs_of(alloc: Global, unaries: &[Unary], facts: u32) -> Result<Rows<u32
     requires facts { IsTrue (list_all (is_unary_below facts) unaries.now) }
     ensures needs { IfOk result (λ rows. IsNeeds unaries.now facts rows) }
     ensures long { IfOk result (λ rows. length rows ≡ facts + 1) }
-    ensures within { IfOk result (λ rows. IsTrue (list_all (are_within (length unaries.now)) rows)) }
+    ensures within { IfOk result
+        (λ rows. IsTrue (list_all (are_within (length unaries.now)) rows)) }
 {
     let mut lists = no_lists(alloc, facts as usize + 1)?;
     add_each(&mut lists, unaries, facts)?;

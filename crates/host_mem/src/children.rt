@@ -1,6 +1,8 @@
 // Children that follow scripts.
-ghost use Rattle.std.specs.Prelude.{◌≡◌, ◌++◌, ◌∷◌, [], map, reverse, filter, not, nat_eq, string_bytes, IfOk, MatchOption};
-ghost use Rattle.host_mem.specs.Scripts.{next_script, later_scripts, script_in, idle_script, IsPlaceOf};
+ghost use Rattle.std.specs.Prelude.{◌≡◌, ◌++◌, ◌∷◌, [], map, reverse, filter, not, nat_eq};
+ghost use Rattle.std.specs.Prelude.{string_bytes, IfOk, MatchOption};
+ghost use Rattle.host_mem.specs.Scripts.{next_script, later_scripts, script_in, idle_script};
+ghost use Rattle.host_mem.specs.Scripts.{IsPlaceOf};
 
 use lama_host::{ChildEnd, Limits};
 use lama_num::Seq;
@@ -78,7 +80,8 @@ pub(crate) fn copy_start(
 }
 
 fn place_of(running: &[Running], slot: u32) -> Option<usize>
-    ensures { MatchOption result (script_in running.now slot ≡ idle_script) (IsPlaceOf running.now slot) }
+    ensures { MatchOption result (script_in running.now slot ≡ idle_script)
+        (IsPlaceOf running.now slot) }
 {
     for i in 0..running.len() {
         let child = &running[i];
@@ -98,7 +101,8 @@ fn free(running: &mut Vec<Running>, slot: u32)
 /// Frees a slot, and gives the script of its child.
 pub(crate) fn end_child(alloc: Global, running: &mut Vec<Running>, slot: u32) -> Script
     ensures script { result ≡ script_in running.old.items slot }
-    ensures freed { running.new.items ≡ filter (λ child. not (nat_eq child.slot slot)) running.old.items }
+    ensures freed { running.new.items ≡
+        filter (λ child. not (nat_eq child.slot slot)) running.old.items }
 {
     match place_of(running, slot) {
         Some(place) => {

@@ -66,7 +66,8 @@ impl Clock for MemClock {
         ensures later { last_answer self.old ≤ result }
         ensures answers { Answers (told_answers self.old) (told_answers self.new) result }
         ensures answer { result ≡ greatest (take (self.old.asked + 1) self.old.times) }
-        ensures next { self.new ≡ record self.old { asked = min (self.old.asked + 1) (2 ^ 64 - 1) } }
+        ensures next { self.new ≡
+            record self.old { asked = min (self.old.asked + 1) (2 ^ 64 - 1) } }
     {
         self.last = answer_at(&self.times, self.asked, self.last);
         self.asked = self.asked.saturating_add(1);

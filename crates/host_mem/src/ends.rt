@@ -1,5 +1,7 @@
 // How children begin and end.
-ghost use Rattle.std.specs.Prelude.{◌≡◌, ◌≤◌, ◌<◌, ◌⊎◌, ◌∷◌, ◌++◌, [], reverse, length, vec_len, Some, None, IfOk, OnErr, OnOk, IsSome, IsErr, IsOk, IsTrue, false, Ok};
+ghost use Rattle.std.specs.Prelude.{◌≡◌, ◌≤◌, ◌<◌, ◌⊎◌, ◌∷◌, ◌++◌, [], reverse, length, vec_len};
+ghost use Rattle.std.specs.Prelude.{Some, None, IfOk, OnErr, OnOk, IsSome, IsErr, IsOk, IsTrue};
+ghost use Rattle.std.specs.Prelude.{false, Ok};
 ghost use Rattle.std.specs.Vec.{vec_capacity};
 ghost use Rattle.lama_host.specs.Folder.{Rose};
 ghost use Rattle.host_mem.specs.declared.journal.Change.{Change};
@@ -71,10 +73,14 @@ pub(crate) fn begin(
     ensures running { OnErr result (running.new.items ≡ running.old.items) }
     ensures starts { OnErr result (starts.new.items ≡ starts.old.items) }
     ensures scripts { OnErr result (scripts.new.items ≡ scripts.old.items) }
-    ensures begun { OnOk result (HasBegun running.old.items running.new.items slot (next_script (reverse scripts.old.items)) starts.old.items journal.old.items journal.new.items) }
-    ensures start { OnOk result (IfOk start (λ it. starts.new.items ≡ starts.old.items ++ it ∷ [])) }
+    ensures begun { OnOk result
+        (HasBegun running.old.items running.new.items slot (next_script (reverse scripts.old.items))
+        starts.old.items journal.old.items journal.new.items) }
+    ensures start { OnOk result
+        (IfOk start (λ it. starts.new.items ≡ starts.old.items ++ it ∷ [])) }
     ensures copied { OnOk result (IsOk start) }
-    ensures later_scripts { OnOk result (reverse scripts.new.items ≡ later_scripts (reverse scripts.old.items)) }
+    ensures later_scripts { OnOk result
+        (reverse scripts.new.items ≡ later_scripts (reverse scripts.old.items)) }
     ensures later { faults.old ≤ faults.new }
     ensures failed { OnErr result (Rose faults.old faults.new) }
     ensures refusals { refused.old ≤ refused.new }

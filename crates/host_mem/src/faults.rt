@@ -1,5 +1,6 @@
 // Failed calls, and changes that are made or not.
-ghost use Rattle.std.specs.Prelude.{◌≡◌, ◌≤◌, ◌⊎◌, ◌/◌, Some, None, IfOk, OnErr, OnOk, IsSome, IsErr};
+ghost use Rattle.std.specs.Prelude.{◌≡◌, ◌≤◌, ◌⊎◌, ◌/◌, Some, None, IfOk, OnErr, OnOk, IsSome};
+ghost use Rattle.std.specs.Prelude.{IsErr};
 ghost use Rattle.lama_host.specs.Folder.{Rose};
 ghost use Rattle.host_mem.specs.declared.journal.Change.{Change};
 ghost use Rattle.host_mem.specs.Outcomes.{Logged, share_of};

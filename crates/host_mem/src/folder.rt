@@ -1,5 +1,6 @@
 // What the calls of a folder are made of: copies into the journal, and reads.
-ghost use Rattle.std.specs.Prelude.{◌≡◌, ◌≤◌, ◌++◌, take, length, IfOk, Option, List, ℕ, Some, None, false};
+ghost use Rattle.std.specs.Prelude.{◌≡◌, ◌≤◌, ◌++◌, take, length, IfOk, Option, List, ℕ, Some};
+ghost use Rattle.std.specs.Prelude.{None, false};
 ghost use Rattle.std.specs.Option.{option_copied};
 ghost use Rattle.lama_host.specs.Pieces.{Shows, Reads, Fits};
 ghost use Rattle.host_mem.specs.declared.journal.Change.{Change};
@@ -51,7 +52,8 @@ pub(crate) fn grew(
     old: &[u8],
 ) -> Result<Change, AllocError>
     requires { count ≤ length piece.now }
-    ensures { IfOk result (λ change. change ≡ Change.Grew name.now piece.now count (old.now ++ take count piece.now)) }
+    ensures { IfOk result (λ change. change ≡
+        Change.Grew name.now piece.now count (old.now ++ take count piece.now)) }
 {
     let mut bytes = Vec::from_slice(alloc, old)?;
     bytes.extend_from_slice(&piece[..count])?;

@@ -1,13 +1,19 @@
 // A host in memory.
-ghost use Rattle.std.specs.Prelude.{◌≡◌, [], ◌∷◌, ◌++◌, ◌⊎◌, ◌/◌, ℕ, ◌+◌, ◌≤◌, length, map, filter, not, nat_eq, string_bytes, reverse, Some, None, IfOk, OnOk, OnErr, IsSome, IsErr, Contains, false};
+ghost use Rattle.std.specs.Prelude.{◌≡◌, [], ◌∷◌, ◌++◌, ◌⊎◌, ◌/◌, ℕ, ◌+◌, ◌≤◌, length, map, filter};
+ghost use Rattle.std.specs.Prelude.{not, nat_eq, string_bytes, reverse, Some, None, IfOk, OnOk};
+ghost use Rattle.std.specs.Prelude.{OnErr, IsSome, IsErr, Contains, false};
 ghost use Rattle.std.specs.FinMap.{get, insert, remove};
 ghost use Rattle.std.specs.Option.{option_copied};
-ghost use Rattle.lama_host.specs.Folder.{Told, Files, Keeps, IsUntouched, WhereTold, Changes, Once, Appends, Passes, renamed, growth, Rose};
+ghost use Rattle.lama_host.specs.Folder.{Told, Files, Keeps, IsUntouched, WhereTold, Changes, Once};
+ghost use Rattle.lama_host.specs.Folder.{Appends, Passes, renamed, growth, Rose};
 ghost use Rattle.lama_host.specs.Host.{Starts, Waits};
 ghost use Rattle.lama_host.specs.Pieces.{Reads, Fits};
-ghost use Rattle.host_mem.specs.declared.calls.HostCall.TheVariants.{ReadSome, Create, Append, Rename, Remove, Start as Began, Wait};
+ghost use Rattle.host_mem.specs.declared.calls.HostCall.TheVariants.{ReadSome, Create, Append};
+ghost use Rattle.host_mem.specs.declared.calls.HostCall.TheVariants.{Rename, Remove};
+ghost use Rattle.host_mem.specs.declared.calls.HostCall.TheVariants.{Start as Began, Wait};
 ghost use Rattle.host_mem.specs.Journal.{written_by, writing};
-ghost use Rattle.host_mem.specs.Memory.{Memory, files_of, told_of, held, fault_at, Calls, IsQuiet, Begins, Does};
+ghost use Rattle.host_mem.specs.Memory.{Memory, files_of, told_of, held, fault_at, Calls, IsQuiet};
+ghost use Rattle.host_mem.specs.Memory.{Begins, Does};
 ghost use Rattle.host_mem.specs.Scripts.{next_script, later_scripts, script_in};
 
 use crate::calls::{Fail, HostCall, next_fault};
@@ -140,7 +146,8 @@ impl Folder for MemHost {
         ensures calls { Calls self.old self.new ReadSome result }
         ensures quiet { IsQuiet self.old self.new }
         // what is read is told also while children run
-        ensures held { IfOk result (λ piece. Reads (get (held self.old) name.now) start buf.new piece) }
+        ensures held { IfOk result
+            (λ piece. Reads (get (held self.old) name.now) start buf.new piece) }
         // before its effect it leaves the buffer
         ensures before { fault_at self.old ReadSome ≡ Some false → buf.new ≡ buf.old }
     {
@@ -152,7 +159,8 @@ impl Folder for MemHost {
 
     fn create(&mut self, name: &str) -> Result<(), Failed>
         ensures keeps { Keeps (told_of self.old) (told_of self.new) result }
-        ensures changes { Changes (told_of self.old) (told_of self.new) (Once result (λ files. insert files name.now [])) }
+        ensures changes { Changes (told_of self.old) (told_of self.new)
+            (Once result (λ files. insert files name.now [])) }
         ensures calls { Calls self.old self.new Create result }
         ensures quiet { IsQuiet self.old self.new }
         ensures does { Does self.old self.new Create result
@@ -172,7 +180,8 @@ impl Folder for MemHost {
     /// Where it is to fail after its effect, the front half of the piece is added.
     fn append(&mut self, name: &str, piece: &[u8]) -> Result<(), Failed>
         ensures keeps { Keeps (told_of self.old) (told_of self.new) result }
-        ensures changes { Changes (told_of self.old) (told_of self.new) (Appends result name.now piece.now) }
+        ensures changes { Changes (told_of self.old) (told_of self.new)
+            (Appends result name.now piece.now) }
         ensures calls { Calls self.old self.new Append result }
         ensures quiet { IsQuiet self.old self.new }
         ensures does { Does self.old self.new Append result
@@ -195,11 +204,13 @@ impl Folder for MemHost {
         requires idle { (told_of self.old).busy ≡ [] }
         requires held { WhereTold (told_of self.old) (λ files. IsSome (get files old.now)) }
         ensures keeps { Keeps (told_of self.old) (told_of self.new) result }
-        ensures changes { Changes (told_of self.old) (told_of self.new) (Once result (renamed old.now new.now)) }
+        ensures changes { Changes (told_of self.old) (told_of self.new)
+            (Once result (renamed old.now new.now)) }
         ensures calls { Calls self.old self.new Rename result }
         ensures quiet { IsQuiet self.old self.new }
         ensures does { Does self.old self.new Rename result
-            (λ files. renamed old.now new.now files ∷ []) (λ files. renamed old.now new.now files ∷ []) }
+            (λ files. renamed old.now new.now files ∷ [])
+            (λ files. renamed old.now new.now files ∷ []) }
     {
         let fault = next_fault(&self.failing, &mut self.calls, HostCall::Rename);
         let bytes = bytes_held(&self.files, &self.journal, old.as_bytes());
@@ -215,7 +226,8 @@ impl Folder for MemHost {
 
     fn remove(&mut self, name: &str) -> Result<(), Failed>
         ensures keeps { Keeps (told_of self.old) (told_of self.new) result }
-        ensures changes { Changes (told_of self.old) (told_of self.new) (Once result (λ files. remove files name.now)) }
+        ensures changes { Changes (told_of self.old) (told_of self.new)
+            (Once result (λ files. remove files name.now)) }
         ensures calls { Calls self.old self.new Remove result }
         ensures quiet { IsQuiet self.old self.new }
         ensures does { Does self.old self.new Remove result
@@ -242,10 +254,12 @@ impl Host for MemHost {
         limits: Limits,
     ) -> Result<(), Failed>
         requires { ¬ Contains (told_of self.old).busy slot }
-        ensures starts { Starts (told_of self.old) (told_of self.new) slot (map string_bytes words.now) input.now limits result }
+        ensures starts { Starts (told_of self.old) (told_of self.new) slot
+            (map string_bytes words.now) input.now limits result }
         ensures calls { Calls self.old self.new Began result }
         ensures held { held self.new ≡ held self.old }
-        ensures begun { OnOk result (Begins self.old self.new slot (map string_bytes words.now) input.now limits) }
+        ensures begun { OnOk result
+            (Begins self.old self.new slot (map string_bytes words.now) input.now limits) }
         ensures quiet { OnErr result (IsQuiet self.old self.new) }
     {
         let fault = next_fault(&self.failing, &mut self.calls, HostCall::Start);
@@ -269,10 +283,13 @@ impl Host for MemHost {
         ensures waits { Waits (told_of self.old) (told_of self.new) slot result }
         ensures calls { Calls self.old self.new Wait result }
         ensures outcome { IfOk result (λ end. end ≡ (script_in self.old.running slot).outcome) }
-        ensures holds { OnOk result (held self.new ≡ written_by (script_in self.old.running slot).writes (held self.old)) }
+        ensures holds { OnOk result
+            (held self.new ≡ written_by (script_in self.old.running slot).writes (held self.old)) }
         ensures does { Does self.old self.new Wait result
-            (writing (script_in self.old.running slot).writes) (writing (script_in self.old.running slot).writes) }
-        ensures freed { self.new.running ≡ filter (λ child. not (nat_eq child.slot slot)) self.old.running }
+            (writing (script_in self.old.running slot).writes)
+            (writing (script_in self.old.running slot).writes) }
+        ensures freed { self.new.running ≡
+            filter (λ child. not (nat_eq child.slot slot)) self.old.running }
         ensures scripts { self.new.scripts ≡ self.old.scripts }
         ensures starts { self.new.starts ≡ self.old.starts }
     {

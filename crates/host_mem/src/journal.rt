@@ -5,7 +5,8 @@ ghost use Rattle.std.specs.Option.{option_copied};
 ghost use Rattle.std.specs.Str.{bytes_eq};
 ghost use Rattle.lama_host.specs.Folder.{bytes_at};
 ghost use Rattle.host_mem.specs.Journal.{holds, first_held};
-ghost use Rattle.host_mem.specs.Says.{is_of as names_it, held_after as says_of, last_write as last_of_name, bytes_after};
+ghost use Rattle.host_mem.specs.Says.{is_of as names_it, held_after as says_of};
+ghost use Rattle.host_mem.specs.Says.{last_write as last_of_name, bytes_after};
 
 use lama_host::ChildEnd;
 use lama_num::Seq;
@@ -106,7 +107,8 @@ pub(crate) fn look_up<'a>(
     journal: &'a [Change],
     name: &[u8],
 ) -> Option<&'a [u8]>
-    ensures { option_copied result ≡ get (holds (first_held (reverse first.now)) (reverse journal.now)) name.now }
+    ensures { option_copied result ≡
+        get (holds (first_held (reverse first.now)) (reverse journal.now)) name.now }
 {
     for i in (0..journal.len()).rev() {
         let change = &journal[i];
@@ -123,7 +125,8 @@ pub(crate) fn bytes_held<'a>(
     journal: &'a [Change],
     name: &[u8],
 ) -> &'a [u8]
-    ensures { result.now ≡ bytes_at (holds (first_held (reverse first.now)) (reverse journal.now)) name.now }
+    ensures { result.now ≡
+        bytes_at (holds (first_held (reverse first.now)) (reverse journal.now)) name.now }
 {
     match look_up(first, journal, name) {
         Some(bytes) => bytes,

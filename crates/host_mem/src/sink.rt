@@ -1,5 +1,6 @@
 // A sink that keeps what it takes.
-ghost use Rattle.std.specs.Prelude.{◌≡◌, ◌≤◌, ◌+◌, ◌++◌, ◌⊎◌, length, [], OnOk, OnErr, IsErr, IsTrue, ◌↔◌, Some};
+ghost use Rattle.std.specs.Prelude.{◌≡◌, ◌≤◌, ◌+◌, ◌++◌, ◌⊎◌, length, [], OnOk, OnErr, IsErr};
+ghost use Rattle.std.specs.Prelude.{IsTrue, ◌↔◌, Some};
 ghost use Rattle.lama_host.specs.Folder.{Rose};
 ghost use Rattle.lama_host.specs.Streams.{Takes};
 ghost use Rattle.host_mem.specs.Sinks.{IsPast};
@@ -27,7 +28,12 @@ impl Model for MemSink {
 
     ghost coded = { sunk_code };
 
-    ghost view = { λ s. record { bytes = s.bytes.items; most = s.most; faults = s.faults; refused = s.refused } };
+    ghost view = { λ s. record {
+      bytes = s.bytes.items;
+      most = s.most;
+      faults = s.faults;
+      refused = s.refused;
+    } };
 }
 
 /// Whether so many bytes more would pass the most.
@@ -81,7 +87,8 @@ fn put_in(
     ensures later { faults.old ≤ faults.new }
     ensures failed { OnErr result (Rose faults.old faults.new) }
     ensures refusals { refused.old ≤ refused.new }
-    ensures only { OnErr result (IsPast most (length held.old.items + length bytes.now) ⊎ Rose refused.old refused.new) }
+    ensures only { OnErr result (IsPast most (length held.old.items + length bytes.now) ⊎
+        Rose refused.old refused.new) }
     ensures listed { IsPast most (length held.old.items + length bytes.now) → IsErr result }
     ensures unspoilt { OnOk result ((faults.new ≡ faults.old) × (refused.new ≡ refused.old)) }
 {
@@ -107,9 +114,13 @@ impl Sink for MemSink {
         ensures none { OnErr result (self.new.bytes ≡ self.old.bytes) }
         ensures most { self.new.most ≡ self.old.most }
         ensures refusals { self.old.refused ≤ self.new.refused }
-        ensures only { OnErr result (IsPast self.old.most (length self.old.bytes + length bytes.now) ⊎ Rose self.old.refused self.new.refused) }
-        ensures listed { IsPast self.old.most (length self.old.bytes + length bytes.now) → IsErr result }
-        ensures unspoilt { OnOk result ((self.new.faults ≡ self.old.faults) × (self.new.refused ≡ self.old.refused)) }
+        ensures only { OnErr result
+            (IsPast self.old.most (length self.old.bytes + length bytes.now) ⊎
+            Rose self.old.refused self.new.refused) }
+        ensures listed { IsPast self.old.most (length self.old.bytes + length bytes.now) →
+            IsErr result }
+        ensures unspoilt { OnOk result
+            ((self.new.faults ≡ self.old.faults) × (self.new.refused ≡ self.old.refused)) }
     {
         put_in(
             &mut self.bytes,

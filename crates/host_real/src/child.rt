@@ -2,7 +2,8 @@
 ghost use Rattle.std.specs.Prelude.{◌≡◌, ◌++◌, IfOk, IsSomeAnd, true, codes, map, string_bytes};
 ghost use Rattle.std.specs.Io.KnownBytes.{Appends};
 ghost use Rattle.std.specs.Process.{command_program, command_args, child_status, exit_code};
-ghost use Rattle.host_real.specs.Children.{soft_text, hard_text, time_text, memory_text, script_text, shell_words, end_of};
+ghost use Rattle.host_real.specs.Children.{soft_text, hard_text, time_text, memory_text};
+ghost use Rattle.host_real.specs.Children.{script_text, shell_words, end_of};
 
 use crate::{BECOME, TAKE_INPUT};
 use lama_host::{ChildEnd, Limits};
@@ -33,8 +34,8 @@ fn hard_limit(alloc: Global, seconds: u64) -> Result<String, AllocError>
     format!(in alloc; "ulimit -H -t {seconds} || exit 127; ")
 }
 
-/// What the shell does to limit the processor time. The soft limit comes first, since it may not lie
-/// above the hard one.
+/// What the shell does to limit the processor time. The soft limit comes first, since it may not
+/// lie above the hard one.
 fn time_limit(alloc: Global, seconds: Option<u32>) -> Result<String, AllocError>
     ensures { IfOk result (λ text. string_bytes text ≡ time_text seconds) }
 {
@@ -83,7 +84,8 @@ fn shell(alloc: Global, limits: Limits) -> Result<Command, AllocError>
 /// The words of the program stand behind the shell's own, where it never reads them as code.
 fn command(alloc: Global, words: &[String], limits: Limits) -> Result<Command, AllocError>
     ensures program { IfOk result (λ c. command_program c ≡ codes "/bin/sh") }
-    ensures args { IfOk result (λ c. command_args c ≡ shell_words limits ++ map string_bytes words.now) }
+    ensures args { IfOk result
+        (λ c. command_args c ≡ shell_words limits ++ map string_bytes words.now) }
 {
     let mut command = shell(alloc, limits)?;
     for word in words {
@@ -94,7 +96,8 @@ fn command(alloc: Global, words: &[String], limits: Limits) -> Result<Command, A
 
 /// Writes a child's input, and answers whether it took all. A child that doesn't is no fault.
 fn feed<W: Write>(pipe: &mut W, input: &[u8]) -> io::Result<bool>
-    ensures { IfOk result (λ all. all ≡ true → Appends (W.contents pipe.old) (W.contents pipe.new) input.now) }
+    ensures { IfOk result
+        (λ all. all ≡ true → Appends (W.contents pipe.old) (W.contents pipe.new) input.now) }
 {
     match pipe.write_all(input) {
         Ok(()) => Ok(true),
@@ -121,7 +124,8 @@ fn begin<R: Processes>(
     program: &Program,
 ) -> io::Result<Child<R::Started>>
     requires shell { command_program command ≡ codes "/bin/sh" }
-    requires words { command_args command ≡ shell_words program.now.limits ++ map string_bytes program.now.words.now }
+    requires words { command_args command ≡
+        shell_words program.now.limits ++ map string_bytes program.now.words.now }
 {
     command.stdin(Stdio::piped());
     command.stdout(Stdio::null());
@@ -155,7 +159,8 @@ fn end(status: ExitStatus) -> ChildEnd
 
 /// Waits for a child, and tells its end.
 pub fn ended<P: OpenProcess + Drop>(child: &mut Child<P>) -> io::Result<ChildEnd>
-    ensures { IfOk result (λ told. IsSomeAnd (child_status child.new) (λ status. told ≡ end_of (exit_code status))) }
+    ensures { IfOk result
+        (λ told. IsSomeAnd (child_status child.new) (λ status. told ≡ end_of (exit_code status))) }
 {
     Ok(end(child.wait()?))
 }

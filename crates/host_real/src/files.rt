@@ -41,8 +41,8 @@ fn what_stands<R: Files>(rt: &R, name: &str) -> io::Result<Named> {
     }
 }
 
-/// Reads from a place of a file on. What is no file of bytes isn't opened, and counts as missing: to
-/// open a FIFO waits for its other end.
+/// Reads from a place of a file on. What is no file of bytes isn't opened, and counts as missing:
+/// to open a FIFO waits for its other end.
 pub fn read_at<R: Files>(rt: &R, name: &str, start: u64, buf: &mut [u8]) -> io::Result<Piece>
     ensures { IfOk result (λ piece. Fits piece buf.new) }
 {

@@ -18,9 +18,9 @@ use std::rt::Files;
 /// A name counts as a file only where it is a file of bytes: a link, a FIFO or a directory that a
 /// child left is missing to a read, and makes way for a new file.
 ///
-/// A child is the shell, which takes its input into a nameless file, sets its limits and then becomes
-/// the program; it ends with status 127 where one of these can't be done or there is no such program.
-/// `start` returns once the shell has taken the input.
+/// A child is the shell, which takes its input into a nameless file, sets its limits and then
+/// becomes the program; it ends with status 127 where one of these can't be done or there is no
+/// such program. `start` returns once the shell has taken the input.
 #[derive(Drop)]
 pub struct RealHost<'a, R: Files + Processes> {
     alloc: Global,

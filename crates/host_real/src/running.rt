@@ -1,5 +1,6 @@
 // The children that run, each with its slot.
-ghost use Rattle.std.specs.Prelude.{◌≡◌, ◌<◌, [], ◌∷◌, ◌++◌, OnOk, OnErr, nat_eq, position, vec_len, vec_capacity};
+ghost use Rattle.std.specs.Prelude.{◌≡◌, ◌<◌, [], ◌∷◌, ◌++◌, OnOk, OnErr, nat_eq, position};
+ghost use Rattle.std.specs.Prelude.{vec_len, vec_capacity};
 ghost use Rattle.host_real.specs.Children.{without};
 ghost use Rattle.host_real.specs.Slots.{slots};
 

@@ -111,8 +111,8 @@ fn limits_hold(rt: HostRuntime) -> Result<(), Fail> {
 #[test]
 fn words_and_input_arrive(rt: HostRuntime) -> Result<(), Fail> {
     let alloc = rt.alloc();
-    let line =
-        "test \"$1\" = 'a b' && test \"$2\" = \"it's\" && test \"$3\" = '$0' && read -r word && test \"$word\" = one";
+    let line = "test \"$1\" = 'a b' && test \"$2\" = \"it's\" && test \"$3\" = '$0' && \
+         read -r word && test \"$word\" = one";
     let words = ["sh", "-c", line, "sh", "a b", "it's", "$0"];
     assert!(rt; end_of(alloc, &rt, &words, b"one\n", FREE)? == Some(ChildEnd::Status(0)));
     let input = vec![in alloc; 7u8; 1_000_000]?;

@@ -62,7 +62,8 @@ fn names_with_odd_bytes(rt: HostRuntime) -> Result<(), Fail> {
 }
 
 const PLANTED: &str =
-    "mkfifo pipe && printf kept > target && ln -s target link && ln -s loop loop && mkdir empty full && touch full/x";
+    "mkfifo pipe && printf kept > target && ln -s target link && ln -s loop loop && \
+     mkdir empty full && touch full/x";
 
 #[test]
 fn what_a_child_may_leave(rt: HostRuntime) -> Result<(), Fail> {

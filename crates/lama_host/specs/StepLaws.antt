@@ -83,16 +83,6 @@ leaves_by a b P Q so first files idle held =
     let one = first files idle held in
     (last_of files one.0, one.2.content, so files one.0 one.1)
 
--- two facts on what was left
-pub leaves_both : (a b : Told) (P Q : Files → Files → Type 0) → Leaves a b P → Leaves a b Q → Leaves a b (λ files after. P files after × Q files after)
-leaves_both a b P Q first second files idle held =
-    let one = first files idle held in
-    let two = second files idle held in
-    (one.0, one.1, (one.2, subst (Q files) (same_files two.0 one.0 (sym two.1 ∙ one.1)) two.2))
-  where
-    same_files : (x y : Files) → Some x ≡ Some y → x ≡ y
-    same_files x y same = cc
-
 pub untouched_then : (a b c : Told) → IsUntouched a b → IsUntouched b c → IsUntouched a c
 untouched_then a b c first second = let again : Told → Told = λ t. record t { faults = c.faults } in second ∙ ap again first
 

@@ -1,7 +1,9 @@
 // Names of plan files, kept on the stack.
 ghost use Rattle.std.specs.Prelude.{◌≡◌, ◌+◌, ◌<◌, ◌≤◌, ◌++◌, length, decimal, IfSome, not, nat_eq};
 ghost use Rattle.std.specs.List.{list_all};
-ghost use Rattle.lama_num.specs.Names.{is_base, base_of, IsPlanNumber, IsEntryNumber, NamesOnly, Part, Numbered, ChildSingle, numbered_name, part_name, child_name};
+ghost use Rattle.lama_num.specs.Names.{is_base, base_of, IsPlanNumber, IsEntryNumber, NamesOnly};
+ghost use Rattle.lama_num.specs.Names.{Part, Numbered, ChildSingle, numbered_name, part_name};
+ghost use Rattle.lama_num.specs.Names.{child_name};
 
 use arrayvec::ArrayString;
 use itoa::Buffer;

@@ -1,5 +1,5 @@
-// What a graph has, as plain numbers, by functions that promise nothing, so that the proof of a test
-// has nothing to carry.
+// What a graph has, as plain numbers, by functions that promise nothing, so that the proof of a
+// test has nothing to carry.
 use lama_num::NoMemory;
 use lm_backchain::landmarks;
 use lm_graph::{Graph, Node};

@@ -4,7 +4,8 @@ ghost use Rattle.sas_task.specs.Runs.{start_of};
 ghost use Rattle.sas_task.specs.declared.contents.Fact.{Fact as TheFact};
 ghost use Rattle.lm_graph.specs.Graphs.{kind_of};
 ghost use Rattle.lm_graph.specs.Nodes.{sets_of};
-ghost use Rattle.lm_graph.specs.declared.orders.Order.TheVariants.{Natural as NaturalOrder, GreedyNecessary as GreedyOrder};
+ghost use Rattle.lm_graph.specs.declared.orders.Order.TheVariants.{Natural as NaturalOrder};
+ghost use Rattle.lm_graph.specs.declared.orders.Order.TheVariants.{GreedyNecessary as GreedyOrder};
 ghost use Rattle.lm_backchain.specs.Backchain.{Among, Backchain};
 ghost use Rattle.lm_backchain.specs.Landmarks.{Landmark, GreedyNecessary, Natural};
 
@@ -28,18 +29,21 @@ fn initial_state(alloc: Global, task: &Task) -> Result<Vec<u32>, NoMemory>
 
 /// The landmarks of a task by backchaining from its goal facts, with their orders.
 ///
-/// The nodes are numbered in the order in which they are found: the goal facts come first, and then,
-/// for one node after the other, the oldest first, what it is taken back to, single facts ascending
-/// and then sets. Takes two relaxed evaluations a node.
+/// The nodes are numbered in the order in which they are found: the goal facts come first, and
+/// then, for one node after the other, the oldest first, what it is taken back to, single facts
+/// ascending and then sets. Takes two relaxed evaluations a node.
 ///
-/// The rules are those of Hoffmann, Porteous and Sebastia, "Ordered landmarks in planning" (2004), as
-/// Richter and Westphal, "The LAMA planner" (2010), extend them to sets of facts.
+/// The rules are those of Hoffmann, Porteous and Sebastia, "Ordered landmarks in planning" (2004),
+/// as Richter and Westphal, "The LAMA planner" (2010), extend them to sets of facts.
 pub fn landmarks(alloc: Global, task: &Task) -> Result<Graph, NoMemory>
     ensures backchain { IfOk result (λ graph. Backchain task.now graph) }
-    ensures landmarks { IfOk result (λ graph. (facts : List TheFact) → Among (sets_of graph.nodes) facts → Landmark task.now facts) }
-    ensures greedy { IfOk result (λ graph. (i j : ℕ) (a b : List TheFact) → slice_get (sets_of graph.nodes) i ≡ Some a → slice_get (sets_of graph.nodes) j ≡ Some b →
+    ensures landmarks { IfOk result (λ graph. (facts : List TheFact) →
+        Among (sets_of graph.nodes) facts → Landmark task.now facts) }
+    ensures greedy { IfOk result (λ graph. (i j : ℕ) (a b : List TheFact) →
+        slice_get (sets_of graph.nodes) i ≡ Some a → slice_get (sets_of graph.nodes) j ≡ Some b →
         kind_of graph i j ≡ Some GreedyOrder → GreedyNecessary task.now a b) }
-    ensures natural { IfOk result (λ graph. (i j : ℕ) (a b : List TheFact) → slice_get (sets_of graph.nodes) i ≡ Some a → slice_get (sets_of graph.nodes) j ≡ Some b →
+    ensures natural { IfOk result (λ graph. (i j : ℕ) (a b : List TheFact) →
+        slice_get (sets_of graph.nodes) i ≡ Some a → slice_get (sets_of graph.nodes) j ≡ Some b →
         kind_of graph i j ≡ Some NaturalOrder → Natural task.now a b) }
 {
     let start = initial_state(alloc, task)?;

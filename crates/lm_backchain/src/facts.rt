@@ -7,7 +7,8 @@ ghost use Rattle.sas_task.specs.States.{holds as fact_holds};
 ghost use Rattle.sas_task.specs.WellFormed.{is_fact, is_derived as derived};
 ghost use Rattle.sas_task.specs.declared.contents.Fact.{Fact as TheFact};
 ghost use Rattle.lm_graph.specs.Nodes.{is_less as less, is_ascending};
-ghost use Rattle.lm_backchain.specs.Backchain.{has as has_fact, is_open as open_test, is_open_fact as open_fact};
+ghost use Rattle.lm_backchain.specs.Backchain.{has as has_fact, is_open as open_test};
+ghost use Rattle.lm_backchain.specs.Backchain.{is_open_fact as open_fact};
 ghost use Rattle.lm_backchain.specs.Places.{IsPlaceFor, is_at as at_place};
 
 use sas_task::{Fact, Task, is_derived};

@@ -1,5 +1,6 @@
 // Possible first achievers.
-ghost use Rattle.std.specs.Prelude.{◌≡◌, ◌<◌, ◌+◌, ◌++◌, ◌↔◌, ℕ, List, length, slice_get, Some, IsTrue, IfOk, OnOk};
+ghost use Rattle.std.specs.Prelude.{◌≡◌, ◌<◌, ◌+◌, ◌++◌, ◌↔◌, ℕ, List, length, slice_get, Some};
+ghost use Rattle.std.specs.Prelude.{IsTrue, IfOk, OnOk};
 ghost use Rattle.std.specs.Bool.{OnTrue, OnFalse};
 ghost use Rattle.std.specs.List.{list_all};
 ghost use Rattle.sas_task.specs.Runs.{start_of};
@@ -19,7 +20,8 @@ use std::alloc::{AllocError, Global};
 
 /// Whether a fact is reached, after the initial state was evaluated without a node's facts.
 pub fn is_reached(add: &Add, fact: Fact) -> bool
-    ensures { (parts : Parts) (node : List TheFact) → Knows parts node add.now → IsTrue (is_fact parts.variables fact) →
+    ensures { (parts : Parts) (node : List TheFact) → Knows parts node add.now →
+        IsTrue (is_fact parts.variables fact) →
         (IsTrue result ↔ IsReached parts (start_of parts) node fact) }
 {
     match add.value(fact) {
@@ -29,7 +31,8 @@ pub fn is_reached(add: &Add, fact: Fact) -> bool
 }
 
 fn all_reached(add: &Add, facts: &[Fact]) -> bool
-    ensures { (parts : Parts) (node : List TheFact) → Knows parts node add.now → IsTrue (list_all (is_fact parts.variables) facts.now) →
+    ensures { (parts : Parts) (node : List TheFact) → Knows parts node add.now →
+        IsTrue (list_all (is_fact parts.variables) facts.now) →
         (IsTrue result ↔ AreReached parts node facts.now) }
 {
     for fact in facts {
@@ -41,7 +44,8 @@ fn all_reached(add: &Add, facts: &[Fact]) -> bool
 }
 
 fn achieves(add: &Add, node: &[Fact], operator: &Operator, effect: &Effect) -> bool
-    ensures { (parts : Parts) → Knows parts node.now add.now → IsTrue (list_all (is_fact parts.variables) (conditions_of operator.now effect.now)) →
+    ensures { (parts : Parts) → Knows parts node.now add.now →
+        IsTrue (list_all (is_fact parts.variables) (conditions_of operator.now effect.now)) →
         (IsTrue result ↔ Achieves parts node.now operator.now effect.now) }
 {
     if !has(node, effect.fact) {
@@ -72,7 +76,8 @@ fn add_first(
 ) -> Result<(), AllocError>
     requires knows { Knows task.now node.now add.now }
     requires op { op < length task.now.operators }
-    requires place { (operator : TheOperator) → slice_get task.now.operators op ≡ Some operator → place < length operator.effects }
+    requires place { (operator : TheOperator) → slice_get task.now.operators op ≡ Some operator →
+        place < length operator.effects }
     requires firsts { HasFirsts task.now node.now op place firsts.old.items }
     ensures { OnOk result (HasFirsts task.now node.now op (place + 1) firsts.new.items) }
 {

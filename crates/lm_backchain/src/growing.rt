@@ -1,5 +1,6 @@
 // The worklist: nodes are taken back in turn, the oldest first.
-ghost use Rattle.std.specs.Prelude.{◌≡◌, ◌+◌, ◌<◌, ◌++◌, ◌∷◌, [], List, length, take, slice_get, Some, IfOk, OnOk};
+ghost use Rattle.std.specs.Prelude.{◌≡◌, ◌+◌, ◌<◌, ◌++◌, ◌∷◌, [], List, length, take, slice_get};
+ghost use Rattle.std.specs.Prelude.{Some, IfOk, OnOk};
 ghost use Rattle.sas_task.specs.Runs.{start_of};
 ghost use Rattle.sas_task.specs.declared.contents.CostKind.TheVariants.{One};
 ghost use Rattle.sas_task.specs.declared.contents.Fact.{Fact as TheFact};

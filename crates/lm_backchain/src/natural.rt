@@ -1,5 +1,6 @@
 // Natural orders.
-ghost use Rattle.std.specs.Prelude.{◌≡◌, ◌≢◌, ◌<◌, ◌+◌, ◌↔◌, List, length, slice_get, Some, IsTrue, OnOk};
+ghost use Rattle.std.specs.Prelude.{◌≡◌, ◌≢◌, ◌<◌, ◌+◌, ◌↔◌, List, length, slice_get, Some, IsTrue};
+ghost use Rattle.std.specs.Prelude.{OnOk};
 ghost use Rattle.std.specs.List.{list_all};
 ghost use Rattle.sas_task.specs.Runs.{start_of};
 ghost use Rattle.sas_task.specs.WellFormed.{is_fact};
@@ -38,7 +39,8 @@ fn is_late(task: &Task, start: &[u32], add: &Add, facts: &[Fact]) -> bool
     requires facts { IsTrue (list_all (is_fact task.now.variables) facts.now) }
     requires start { start.now ≡ start_of task.now }
     requires long { length start.now ≡ length task.now.variables }
-    ensures { (node : List TheFact) → Knows task.now node add.now → IsOpenSingle task.now node → node ≢ facts.now →
+    ensures { (node : List TheFact) → Knows task.now node add.now → IsOpenSingle task.now node →
+        node ≢ facts.now →
         (IsTrue result ↔ GivesNatural task.now node facts.now) }
 {
     if !is_open_single(task, start, facts) {
@@ -53,7 +55,8 @@ fn is_late_at(task: &Task, start: &[u32], add: &Add, graph: &Graph, place: u32) 
     requires start { start.now ≡ start_of task.now }
     requires long { length start.now ≡ length task.now.variables }
     ensures graph { IsGraph graph.now }
-    ensures late { (node facts : List TheFact) → slice_get (sets_of graph.now.nodes) place ≡ Some facts → Knows task.now node add.now → IsOpenSingle task.now node → node ≢ facts →
+    ensures late { (node facts : List TheFact) → slice_get (sets_of graph.now.nodes) place ≡
+        Some facts → Knows task.now node add.now → IsOpenSingle task.now node → node ≢ facts →
         (IsTrue result ↔ GivesNatural task.now node facts) }
 {
     let node = &graph.nodes()[place as usize];

@@ -2,7 +2,8 @@
 ghost use Rattle.std.specs.Prelude.{◌≡◌, map, filter, if◌then◌else◌, Some, IsTrue, IfOk};
 ghost use Rattle.lm_graph.specs.Graphs.{Adds, IsGraph};
 ghost use Rattle.lm_graph.specs.Nodes.{is_set};
-ghost use Rattle.lm_backchain.specs.Backchain.{least, or_less, gives_one as gives_one_of, is_goal_fact as goal_test, node_of};
+ghost use Rattle.lm_backchain.specs.Backchain.{least, or_less, gives_one as gives_one_of};
+ghost use Rattle.lm_backchain.specs.Backchain.{is_goal_fact as goal_test, node_of};
 
 use crate::facts::has;
 use lama_num::NoMemory;
@@ -29,7 +30,8 @@ fn lesser(least: Option<u32>, cost: u32) -> u32
 
 // The least cost with that of one operator more, if it gives one of the facts.
 fn with_cost(least: Option<u32>, operator: &Operator, facts: &[Fact]) -> Option<u32>
-    ensures { result ≡ (if gives_one_of facts.now operator.now then Some (or_less operator.now.cost least) else least) }
+    ensures { result ≡ (if gives_one_of facts.now operator.now
+        then Some (or_less operator.now.cost least) else least) }
 {
     if gives_one(operator, facts) {
         Some(lesser(least, operator.cost))
@@ -61,7 +63,8 @@ fn is_goal_fact(task: &Task, facts: &[Fact]) -> bool
 /// Adds the node of some facts.
 pub fn add_node(task: &Task, graph: &mut Graph, facts: &[Fact]) -> Result<Added, NoMemory>
     requires { IsTrue (is_set facts.now) }
-    ensures ok { IfOk result (λ added. Adds graph.old graph.new (node_of task.now facts.now) added) }
+    ensures ok { IfOk result
+        (λ added. Adds graph.old graph.new (node_of task.now facts.now) added) }
     ensures graph { IsGraph graph.new }
 {
     let least = least_cost(&task.parts().operators, facts);

@@ -1,5 +1,6 @@
 // What a node is taken back to.
-ghost use Rattle.std.specs.Prelude.{◌≡◌, ◌≤◌, ◌&&◌, ◌||◌, ◌↔◌, ◌++◌, ◌∷◌, [], List, length, true, Some, IsTrue, IfOk, OnOk};
+ghost use Rattle.std.specs.Prelude.{◌≡◌, ◌≤◌, ◌&&◌, ◌||◌, ◌↔◌, ◌++◌, ◌∷◌, [], List, length, true};
+ghost use Rattle.std.specs.Prelude.{Some, IsTrue, IfOk, OnOk};
 ghost use Rattle.std.specs.List.{list_all};
 ghost use Rattle.sas_task.specs.Facts.{predicate_of, same_fact};
 ghost use Rattle.sas_task.specs.Runs.{start_of};
@@ -8,8 +9,11 @@ ghost use Rattle.sas_task.specs.declared.contents.CostKind.TheVariants.{One};
 ghost use Rattle.sas_task.specs.declared.contents.Fact.{Fact as TheFact};
 ghost use Rattle.relaxed_task.specs.Relaxations.{IsRelaxed};
 ghost use Rattle.lm_graph.specs.Nodes.{is_ascending};
-ghost use Rattle.lm_backchain.specs.Backchain.{has as has_fact, is_open as open_test, Among, singles};
-ghost use Rattle.lm_backchain.specs.Asked.{IsOf, IsFactOf, AllAsk, AreFacts, Collects, IsAsked, IsSetFor, all_have as have_all, PutsSet, AddsSet, HasSets};
+ghost use Rattle.lm_backchain.specs.Backchain.{has as has_fact, is_open as open_test, Among};
+ghost use Rattle.lm_backchain.specs.Backchain.{singles};
+ghost use Rattle.lm_backchain.specs.Asked.{IsOf, IsFactOf, AllAsk, AreFacts, Collects, IsAsked};
+ghost use Rattle.lm_backchain.specs.Asked.{IsSetFor, all_have as have_all, PutsSet, AddsSet};
+ghost use Rattle.lm_backchain.specs.Asked.{HasSets};
 ghost use Rattle.lm_backchain.specs.Firsts.{AreFirsts};
 ghost use Rattle.lm_backchain.specs.Growth.{IsTakenBack};
 
@@ -88,7 +92,8 @@ fn collect_fact(
     set: &mut Vec<Fact>,
 ) -> Result<(), AllocError>
     requires { IsTrue (is_ascending set.old.items) }
-    ensures { OnOk result (Collects set.old.items set.new.items (IsFactOf task.now predicate.now fact)) }
+    ensures { OnOk result
+        (Collects set.old.items set.new.items (IsFactOf task.now predicate.now fact)) }
 {
     if set.len() > 4 {
         return Ok(());
@@ -106,7 +111,8 @@ fn collect_from(
     set: &mut Vec<Fact>,
 ) -> Result<(), AllocError>
     requires { IsTrue (is_ascending set.old.items) }
-    ensures { OnOk result (Collects set.old.items set.new.items (IsOf task.now predicate.now conds.now)) }
+    ensures { OnOk result
+        (Collects set.old.items set.new.items (IsOf task.now predicate.now conds.now)) }
 {
     for fact in conds {
         collect_fact(task, predicate, *fact, set)?;
@@ -122,7 +128,8 @@ fn collect(
     predicate: &[u8],
     lists: &[Seq<Fact>],
 ) -> Result<Vec<Fact>, AllocError>
-    ensures { IfOk result (λ set. Collects [] set.items (IsAsked task.now predicate.now lists.now)) }
+    ensures { IfOk result
+        (λ set. Collects [] set.items (IsAsked task.now predicate.now lists.now)) }
 {
     let mut set = Vec::new(alloc);
     for conds in lists {
@@ -214,7 +221,8 @@ fn add_set_of(
     requires facts { AreFacts task.now.variables lists.now }
     requires start { start.now ≡ start_of task.now }
     requires long { length start.now ≡ length task.now.variables }
-    ensures { OnOk result ((seeds : List TheFact) → HasSets task.now lists.now seeds sets.old.items →
+    ensures { OnOk result
+        ((seeds : List TheFact) → HasSets task.now lists.now seeds sets.old.items →
         HasSets task.now lists.now (seeds ++ seed ∷ []) sets.new.items) }
 {
     match task.predicate(seed) {

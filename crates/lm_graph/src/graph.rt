@@ -1,5 +1,7 @@
 // Nodes, and the orders between them.
-ghost use Rattle.std.specs.Prelude.{◌≡◌, ◌≢◌, ◌<◌, ◌↔◌, ◌++◌, ◌∷◌, [], ℕ, length, IfOk, OnOk, OnErr, IsTrue, Some, IfSome, IfNone, slice_get, vec_len, vec_capacity};
+ghost use Rattle.std.specs.Prelude.{◌≡◌, ◌≢◌, ◌<◌, ◌↔◌, ◌++◌, ◌∷◌, [], ℕ, length, IfOk, OnOk};
+ghost use Rattle.std.specs.Prelude.{OnErr, IsTrue, Some, IfSome, IfNone, slice_get, vec_len};
+ghost use Rattle.std.specs.Prelude.{vec_capacity};
 ghost use Rattle.lm_graph.specs.declared.orders.Edge.{Edge as TheEdge};
 ghost use Rattle.lm_graph.specs.Nodes.{is_set, sets_of, IsAbsent, with_goal};
 ghost use Rattle.lm_graph.specs.Rows.{IsAscending};
@@ -44,7 +46,8 @@ impl Model for Graph {
 
     ghost view = { λ g. content g.nodes.items g.rows.items };
 
-    ghost invariant = { λ g. IsGraph (content g.nodes.items g.rows.items) × AreKeys g.sets.keys g.nodes.items };
+    ghost invariant = { λ g. IsGraph (content g.nodes.items g.rows.items) ×
+        AreKeys g.sets.keys g.nodes.items };
 }
 
 // Makes a node also a goal, if so.
@@ -218,7 +221,8 @@ impl Graph {
         Ok(Seq::from(seen))
     }
 
-    /// Whether a path of one or more orders, each at least that strong, leads from a node to another.
+    /// Whether a path of one or more orders, each at least that strong, leads from a node to
+    /// another.
     pub fn reaches(&self, before: u32, after: u32, weakest: Order) -> Result<bool, NoMemory>
         requires before { before < length self.now.nodes }
         requires after { after < length self.now.nodes }

@@ -2,8 +2,8 @@
 use lama_num::Seq;
 use sas_task::Fact;
 
-/// Facts of which one is to hold; the least cost of an operator that gives one, if an operator does;
-/// and whether they are a goal.
+/// Facts of which one is to hold; the least cost of an operator that gives one, if an operator
+/// does; and whether they are a goal.
 #[derive(Debug, Drop)]
 pub struct Node {
     /// 1 to 4 facts, each once and in ascending order.

@@ -1,5 +1,6 @@
 // Which nodes lead to one.
-ghost use Rattle.std.specs.Prelude.{◌≡◌, ◌<◌, ℕ, length, IfOk, OnOk, IsTrue, ◌↔◌, slice_get, Some, nat_eq, false, replicate};
+ghost use Rattle.std.specs.Prelude.{◌≡◌, ◌<◌, ℕ, length, IfOk, OnOk, IsTrue, ◌↔◌, slice_get, Some};
+ghost use Rattle.std.specs.Prelude.{nat_eq, false, replicate};
 ghost use Rattle.lm_graph.specs.Marks.{InStep, Marks, is_taken, is_seen, kinds_in, AreWithin};
 ghost use Rattle.lm_graph.specs.Graphs.{row_of};
 ghost use Rattle.lm_graph.specs.Rows.{IsAscending};

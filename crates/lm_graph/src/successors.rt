@@ -1,5 +1,6 @@
 // Orders by the node that they come from.
-ghost use Rattle.std.specs.Prelude.{◌≡◌, ◌≢◌, ◌<◌, ◌≤◌, ◌↔◌, ℕ, [], length, replicate, IfOk, OnOk, IsTrue, Some, None, slice_get};
+ghost use Rattle.std.specs.Prelude.{◌≡◌, ◌≢◌, ◌<◌, ◌≤◌, ◌↔◌, ℕ, [], length, replicate, IfOk, OnOk};
+ghost use Rattle.std.specs.Prelude.{IsTrue, Some, None, slice_get};
 ghost use Rattle.lm_graph.specs.declared.orders.Edge.{Edge as TheEdge};
 ghost use Rattle.lm_graph.specs.Graphs.{row_of};
 ghost use Rattle.lm_graph.specs.Marks.{is_seen, AreWithin};

@@ -1,10 +1,15 @@
 // The status of landmarks.
-ghost use Rattle.std.specs.Prelude.{◌≡◌, ◌+◌, min, ◌<◌, ◌≤◌, ◌&&◌, ◌∷◌, ◌++◌, [], ℕ, List, length, not, true, false, slice_index, slice_get, Some, vec_len, vec_capacity, IfOk};
+ghost use Rattle.std.specs.Prelude.{◌≡◌, ◌+◌, min, ◌<◌, ◌≤◌, ◌&&◌, ◌∷◌, ◌++◌, [], ℕ, List, length};
+ghost use Rattle.std.specs.Prelude.{not, true, false, slice_index, slice_get, Some, vec_len};
+ghost use Rattle.std.specs.Prelude.{vec_capacity, IfOk};
 ghost use Rattle.std.specs.List.{list_any, list_all};
-ghost use Rattle.sas_task.specs.States.{holds as fact_holds, all_hold as every_holds, fires as effect_fires};
+ghost use Rattle.sas_task.specs.States.{holds as fact_holds, all_hold as every_holds};
+ghost use Rattle.sas_task.specs.States.{fires as effect_fires};
 ghost use Rattle.lm_status.specs.Accepted.{facts_of, holds_at, opens, accepted_next, before_of};
-ghost use Rattle.lm_status.specs.Estimates.{is_open as open_at, is_goal_at, after_of, landmark_estimate};
-ghost use Rattle.lm_status.specs.Preferred.{is_next as next_at, is_wanted as wanted, leads_on as op_leads_on, landmark_preferred};
+ghost use Rattle.lm_status.specs.Estimates.{is_open as open_at, is_goal_at, after_of};
+ghost use Rattle.lm_status.specs.Estimates.{landmark_estimate};
+ghost use Rattle.lm_status.specs.Preferred.{is_next as next_at, is_wanted as wanted};
+ghost use Rattle.lm_status.specs.Preferred.{leads_on as op_leads_on, landmark_preferred};
 ghost use Rattle.lm_status.specs.Rows.{has as has_bit, words_of, StandsFor};
 ghost use Rattle.lm_status.specs.Statuses.{IsStatusOf};
 
@@ -17,7 +22,8 @@ use sas_task::{CostKind, Effect, Fact, Task};
 use std::alloc::Global;
 use std::marker::Model;
 
-/// Which landmarks are accepted along a path, by rows of bits, and what that says of its last state.
+/// Which landmarks are accepted along a path, by rows of bits, and what that says of its last
+/// state.
 ///
 /// A landmark is accepted once it holds while all its predecessors were accepted before. Only `new`
 /// takes memory. After Richter and Westphal, "The LAMA planner" (2010).
@@ -42,7 +48,8 @@ impl Model for Status {
 
     ghost view = { λ s. record { graph = s.graph; weights = s.weights.items } };
 
-    ghost invariant = { λ s. AreTables s.graph s.facts s.before s.after s.goals.items s.weights.items s.table };
+    ghost invariant = { λ s. AreTables s.graph s.facts s.before s.after s.goals.items
+        s.weights.items s.table };
 }
 
 /// Whether a fact holds in a state.
@@ -99,8 +106,9 @@ fn push_in(list: &mut Vec<u32>, item: u32)
 }
 
 impl Status {
-    /// The status of a graph of landmarks of a task, whose nodes weigh the least cost of an operator
-    /// that gives one of their facts, by a kind of cost. A node that no operator gives weighs nothing.
+    /// The status of a graph of landmarks of a task, whose nodes weigh the least cost of an
+    /// operator that gives one of their facts, by a kind of cost. A node that no operator gives
+    /// weighs nothing.
     pub fn new(alloc: Global, task: &Task, graph: Graph, kind: CostKind) -> Result<Status, NoMemory>
         ensures { IfOk result (IsStatusOf task.now graph kind) }
     {
@@ -296,8 +304,8 @@ impl Status {
         false
     }
 
-    /// Whether an effect of an operator that fires gives a fact of a node that isn't accepted, while
-    /// all its predecessors are.
+    /// Whether an effect of an operator that fires gives a fact of a node that isn't accepted,
+    /// while all its predecessors are.
     pub fn leads_on(&self, task: &Task, row: &[u64], state: &[u32], op: u32) -> bool
         ensures { result
             ≡ op_leads_on task.now self.now.graph (has_bit row.now) state.now op }

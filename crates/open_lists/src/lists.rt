@@ -1,5 +1,7 @@
 // The lists and their calls.
-ghost use Rattle.std.specs.Prelude.{◌≡◌, ℕ, true, ◌-◌, ◌^◌, ◌<◌, ◌≤◌, ◌↔◌, List, [], ◌∷◌, ◌++◌, IsTrue, IfSome, IfNone, OnOk, IfOk, OnErr, length, vec_len, pos, negsuc, ◌+ℤ◌, ◌≤ℤ◌, ◌<ℤ◌};
+ghost use Rattle.std.specs.Prelude.{◌≡◌, ℕ, true, ◌-◌, ◌^◌, ◌<◌, ◌≤◌, ◌↔◌, List, [], ◌∷◌, ◌++◌};
+ghost use Rattle.std.specs.Prelude.{IsTrue, IfSome, IfNone, OnOk, IfOk, OnErr, length, vec_len};
+ghost use Rattle.std.specs.Prelude.{pos, negsuc, ◌+ℤ◌, ◌≤ℤ◌, ◌<ℤ◌};
 
 use crate::entry::{Entry, Popped};
 use crate::list::OpenList;
@@ -19,7 +21,8 @@ pub struct OpenLists {
 
 impl OpenLists {
     ghost use Rattle.open_lists.specs.Items.{Item, item_of, items_of_visit};
-    ghost use Rattle.open_lists.specs.Lists.{Holds, list_count, boost_of, counter, is_preferred, is_set, Pops, Inserts, Boosts, SameLists};
+    ghost use Rattle.open_lists.specs.Lists.{Holds, list_count, boost_of, counter, is_preferred};
+    ghost use Rattle.open_lists.specs.Lists.{is_set, Pops, Inserts, Boosts, SameLists};
 
     /// Empty lists, one for each flag, which says whether it is for preferred operators alone.
     /// A boost lowers the counters of those by `boost`.
@@ -28,7 +31,8 @@ impl OpenLists {
         ensures count { IfOk result (λ lists. list_count lists ≡ length preferred_only.now) }
         ensures empty { IfOk result (λ lists. (k : ℕ) → Holds lists k []) }
         ensures counters { IfOk result (λ lists. (k : ℕ) → counter lists k ≡ pos 0) }
-        ensures sorts { IfOk result (λ lists. (k : ℕ) → is_preferred lists k ≡ is_set preferred_only.now k) }
+        ensures sorts { IfOk result
+            (λ lists. (k : ℕ) → is_preferred lists k ≡ is_set preferred_only.now k) }
         ensures boost { IfOk result (λ lists. boost_of lists ≡ boost) }
     {
         let mut lists = Vec::new(alloc);
@@ -60,7 +64,8 @@ impl OpenLists {
         operators: &[u32],
     ) -> Result<(), NoMemory>
         requires { list < list_count self.old }
-        ensures ok { OnOk result (Inserts self.old list (items_of_visit key parent operators.now) self.new) }
+        ensures ok { OnOk result
+            (Inserts self.old list (items_of_visit key parent operators.now) self.new) }
         ensures err { OnErr result (SameLists self.old self.new) }
     {
         let list = &mut self.lists[list as usize];
@@ -91,7 +96,8 @@ impl OpenLists {
 
     /// Lowers the counters of the lists for preferred operators.
     pub fn boost(&mut self)
-        requires { (k : ℕ) → is_preferred self.old k ≡ true → (negsuc (2 ^ 63 - 1) +ℤ pos (boost_of self.old)) ≤ℤ counter self.old k }
+        requires { (k : ℕ) → is_preferred self.old k ≡ true →
+            (negsuc (2 ^ 63 - 1) +ℤ pos (boost_of self.old)) ≤ℤ counter self.old k }
         ensures { Boosts self.old self.new }
     {
         let by = self.boost;

@@ -1,5 +1,6 @@
 // The queues of the keys above the least one.
-ghost use Rattle.std.specs.Prelude.{◌≡◌, ◌≢◌, ◌<◌, ℕ, [], ◌∷◌, ◌++◌, IsSome, IfSome, IfNone, IfErr, OnOk, OnErr, None, Some};
+ghost use Rattle.std.specs.Prelude.{◌≡◌, ◌≢◌, ◌<◌, ℕ, [], ◌∷◌, ◌++◌, IsSome, IfSome, IfNone, IfErr};
+ghost use Rattle.std.specs.Prelude.{OnOk, OnErr, None, Some};
 ghost use Rattle.std.specs.Ordering.{nat_cmp};
 ghost use Rattle.std.specs.BTreeMap as tree;
 ghost use Rattle.open_lists.specs.Queues.{queue_at};
@@ -18,8 +19,10 @@ fn begin(
     parent: u64,
     operators: &[u32],
 ) -> Result<(), NoMemory>
-    ensures here { OnOk result (tree.get nat_cmp map.new key ≡ Some (entries_of_visit parent operators.now)) }
-    ensures others { OnOk result ((other : ℕ) → other ≢ key → tree.get nat_cmp map.new other ≡ tree.get nat_cmp map.old other) }
+    ensures here { OnOk result
+        (tree.get nat_cmp map.new key ≡ Some (entries_of_visit parent operators.now)) }
+    ensures others { OnOk result ((other : ℕ) → other ≢ key →
+        tree.get nat_cmp map.new other ≡ tree.get nat_cmp map.old other) }
     ensures err { OnErr result (map.new.entries ≡ map.old.entries) }
 {
     let mut queue = Queue::new(alloc);
@@ -36,9 +39,12 @@ pub(crate) fn put(
     parent: u64,
     operators: &[u32],
 ) -> Result<(), NoMemory>
-    ensures here { OnOk result (tree.get nat_cmp map.new key ≡ Some (queue_at map.old key ++ entries_of_visit parent operators.now)) }
-    ensures others { OnOk result ((other : ℕ) → other ≢ key → tree.get nat_cmp map.new other ≡ tree.get nat_cmp map.old other) }
-    ensures err { OnErr result ((other : ℕ) → tree.get nat_cmp map.new other ≡ tree.get nat_cmp map.old other) }
+    ensures here { OnOk result (tree.get nat_cmp map.new key ≡
+        Some (queue_at map.old key ++ entries_of_visit parent operators.now)) }
+    ensures others { OnOk result ((other : ℕ) → other ≢ key →
+        tree.get nat_cmp map.new other ≡ tree.get nat_cmp map.old other) }
+    ensures err { OnErr result
+        ((other : ℕ) → tree.get nat_cmp map.new other ≡ tree.get nat_cmp map.old other) }
 {
     if let Some(queue) = map.get_mut(&key) {
         return queue.push(parent, operators);
@@ -49,7 +55,8 @@ pub(crate) fn put(
 /// Puts a queue under a key that is not there, or gives it back.
 pub(crate) fn set_aside(map: &mut BTreeMap<u64, Queue>, key: u64, queue: Queue) -> Result<(), Queue>
     ensures here { OnOk result (tree.get nat_cmp map.new key ≡ Some queue) }
-    ensures others { OnOk result ((other : ℕ) → other ≢ key → tree.get nat_cmp map.new other ≡ tree.get nat_cmp map.old other) }
+    ensures others { OnOk result ((other : ℕ) → other ≢ key →
+        tree.get nat_cmp map.new other ≡ tree.get nat_cmp map.old other) }
     ensures back { IfErr result (λ back. back ≡ queue) }
     ensures err { OnErr result (map.new.entries ≡ map.old.entries) }
 {
@@ -64,9 +71,11 @@ pub(crate) fn take_least(map: &mut BTreeMap<u64, Queue>) -> Option<(u64, Queue)>
     ensures none { IfNone result (map.old.entries ≡ []) }
     ensures same { IfNone result (map.new.entries ≡ map.old.entries) }
     ensures taken { IfSome result (λ least. tree.get nat_cmp map.old least.0 ≡ Some least.1) }
-    ensures least { IfSome result (λ least. (other : ℕ) → other < least.0 → tree.get nat_cmp map.old other ≡ None) }
+    ensures least { IfSome result (λ least. (other : ℕ) → other < least.0 →
+        tree.get nat_cmp map.old other ≡ None) }
     ensures gone { IfSome result (λ least. tree.get nat_cmp map.new least.0 ≡ None) }
-    ensures others { IfSome result (λ least. (other : ℕ) → other ≢ least.0 → tree.get nat_cmp map.new other ≡ tree.get nat_cmp map.old other) }
+    ensures others { IfSome result (λ least. (other : ℕ) → other ≢ least.0 →
+        tree.get nat_cmp map.new other ≡ tree.get nat_cmp map.old other) }
 {
     map.pop_first()
 }

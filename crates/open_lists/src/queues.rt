@@ -48,9 +48,12 @@ impl Queues {
         requires below { key < self.old.least }
         requires some { operators.now ≢ [] }
         requires filled { self.old.first ≢ [] }
-        ensures here { OnOk result (queue_for self.new key ≡ entries_of_visit parent operators.now) }
-        ensures others { OnOk result ((other : ℕ) → other ≢ key → queue_for self.new other ≡ queue_for self.old other) }
-        ensures err { OnErr result ((other : ℕ) → queue_for self.new other ≡ queue_for self.old other) }
+        ensures here { OnOk result
+            (queue_for self.new key ≡ entries_of_visit parent operators.now) }
+        ensures others { OnOk result
+            ((other : ℕ) → other ≢ key → queue_for self.new other ≡ queue_for self.old other) }
+        ensures err { OnErr result
+            ((other : ℕ) → queue_for self.new other ≡ queue_for self.old other) }
     {
         let mut first = Queue::new(self.alloc);
         first.push(parent, operators)?;
@@ -69,9 +72,12 @@ impl Queues {
 
     /// Puts operators of one visit at the end of the queue of a key, in order.
     pub(crate) fn push(&mut self, key: u64, parent: u64, operators: &[u32]) -> Result<(), NoMemory>
-        ensures here { OnOk result (queue_for self.new key ≡ queue_for self.old key ++ entries_of_visit parent operators.now) }
-        ensures others { OnOk result ((other : ℕ) → other ≢ key → queue_for self.new other ≡ queue_for self.old other) }
-        ensures err { OnErr result ((other : ℕ) → queue_for self.new other ≡ queue_for self.old other) }
+        ensures here { OnOk result (queue_for self.new key ≡
+            queue_for self.old key ++ entries_of_visit parent operators.now) }
+        ensures others { OnOk result
+            ((other : ℕ) → other ≢ key → queue_for self.new other ≡ queue_for self.old other) }
+        ensures err { OnErr result
+            ((other : ℕ) → queue_for self.new other ≡ queue_for self.old other) }
     {
         if operators.is_empty() {
             return Ok(());
@@ -95,7 +101,8 @@ impl Queues {
         requires { self.old.first ≢ [] }
         ensures first { queue_for self.old result.0 ≡ result.1 ∷ queue_for self.new result.0 }
         ensures least { (other : ℕ) → other < result.0 → queue_for self.old other ≡ [] }
-        ensures others { (other : ℕ) → other ≢ result.0 → queue_for self.new other ≡ queue_for self.old other }
+        ensures others { (other : ℕ) → other ≢ result.0 →
+            queue_for self.new other ≡ queue_for self.old other }
     {
         let key = self.least;
         let entry = self.first.pop();

@@ -45,7 +45,9 @@ pub fn write_field(words: &mut [u64], field: Field, value: u32)
     requires fits { field.shift + field.bits ≤ 64 }
     requires small { value < 2 ^ field.bits }
     requires free { slice_index words.old field.word < 2 ^ field.shift }
-    ensures { words.new ≡ slice_set words.old field.word (slice_index words.old field.word + value * 2 ^ field.shift) }
+    ensures { words.new ≡
+        slice_set words.old field.word
+        (slice_index words.old field.word + value * 2 ^ field.shift) }
 {
     let word = &mut words[field.word as usize];
     *word += u64::from(value) << field.shift;

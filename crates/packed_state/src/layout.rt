@@ -115,7 +115,8 @@ impl Layout {
     pub fn unpack(&self, packed_words: &[u64], out: &mut [u32])
         requires words { length packed_words.now ≡ self.now.words }
         requires long { length out.old ≡ length self.now.fields }
-        ensures { (state : List ℕ) → CanHold self.now state → packed_words.now ≡ packed self.now state → out.new ≡ state }
+        ensures { (state : List ℕ) → CanHold self.now state →
+            packed_words.now ≡ packed self.now state → out.new ≡ state }
     {
         for i in 0..self.fields.len() {
             out[i] = read_field(packed_words, self.fields[i]);
@@ -127,7 +128,8 @@ impl Layout {
     pub fn get(&self, packed_words: &[u64], var: u32) -> u32
         requires words { length packed_words.now ≡ self.now.words }
         requires var { var < length self.now.fields }
-        ensures { (state : List ℕ) → CanHold self.now state → packed_words.now ≡ packed self.now state → result ≡ slice_index state var }
+        ensures { (state : List ℕ) → CanHold self.now state →
+            packed_words.now ≡ packed self.now state → result ≡ slice_index state var }
     {
         read_field(packed_words, self.fields[var as usize])
     }

@@ -7,8 +7,8 @@ use std::alloc::{AllocError, Global};
 use std::test::Fail;
 use test_tasks::{three_places, two_layers, variable};
 
-/// What becomes of a task's initial values: how many words they take, what is unpacked, and the last
-/// of them alone.
+/// What becomes of a task's initial values: how many words they take, what is unpacked, and the
+/// last of them alone.
 #[derive(Drop)]
 struct Found {
     words: usize,

@@ -39,12 +39,14 @@ fn go_on(
     requires few { length names.now ≤ 67108864 }
     requires done { length links.old.items ≤ length names.now }
     requires start { let done = length links.old.items in
-        IsAfter setup.now.task.now setup.now.layout names.now links.old.items (done - 1) done start }
+        IsAfter setup.now.task.now setup.now.layout names.now links.old.items (done - 1) done
+        start }
     requires no_fault { first_fault setup.now.task.now names.now (length links.old.items) ≡ None }
     ensures ready { IsWalker walker.new setup.now.task.now }
     ensures end { IfOk result (λ last. IsAfter setup.now.task.now setup.now.layout names.now
         links.new.items last.first (length names.now) last.layer) }
-    ensures no_fault { OnOk result (first_fault setup.now.task.now names.now (length names.now) ≡ None) }
+    ensures no_fault { OnOk result
+        (first_fault setup.now.task.now names.now (length names.now) ≡ None) }
     ensures fault { IfErr result (IsFirstFault setup.now.task.now names.now) }
 {
     let done = links.len();
@@ -72,7 +74,8 @@ fn walk(
     ensures ready { IsWalker walker.new setup.now.task.now }
     ensures end { IfOk result (λ last. IsAfter setup.now.task.now setup.now.layout names.now
         links.new.items last.first (length names.now) last.layer) }
-    ensures no_fault { OnOk result (first_fault setup.now.task.now names.now (length names.now) ≡ None) }
+    ensures no_fault { OnOk result
+        (first_fault setup.now.task.now names.now (length names.now) ≡ None) }
     ensures fault { IfErr result (IsFirstFault setup.now.task.now names.now) }
 {
     let cost = go_alone(setup, walker, names, links)?;
@@ -121,7 +124,8 @@ fn choose_by(
     requires made { IsSetup setup.now }
     requires ready { IsWalker walker.old setup.now.task.now }
     requires few { length names.now ≤ 67108864 }
-    ensures no_fault { OnOk result (first_fault setup.now.task.now names.now (length names.now) ≡ None) }
+    ensures no_fault { OnOk result
+        (first_fault setup.now.task.now names.now (length names.now) ≡ None) }
     ensures least { IfOk result (λ chosen.
         chosen.least ≡ least_cost setup.now.task.now names.now) }
     ensures plan { IfOk result (λ chosen. option_map (λ ops. ops.items) chosen.plan
@@ -137,7 +141,8 @@ fn choose_by(
 fn with_walker(setup: &Setup, names: &[Seq<u8>], wanted: u64) -> Result<Chosen, Refusal>
     requires made { IsSetup setup.now }
     requires few { length names.now ≤ 67108864 }
-    ensures no_fault { OnOk result (first_fault setup.now.task.now names.now (length names.now) ≡ None) }
+    ensures no_fault { OnOk result
+        (first_fault setup.now.task.now names.now (length names.now) ≡ None) }
     ensures least { IfOk result (λ chosen.
         chosen.least ≡ least_cost setup.now.task.now names.now) }
     ensures plan { IfOk result (λ chosen. option_map (λ ops. ops.items) chosen.plan

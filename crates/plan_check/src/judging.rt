@@ -4,7 +4,8 @@ ghost use Rattle.lama_num.specs.Gives.{Gives};
 ghost use Rattle.plan_text.specs.PlanLines.{plan_lines_of};
 ghost use Rattle.plan_check.specs.GoodPlans.{IsJudged, HasFewSteps};
 ghost use Rattle.plan_check.specs.Refusals.{fault_of};
-ghost use Rattle.plan_check.specs.Verdicts.{as_text, compared, plan_in as the_plan_in, plan_of as the_plan, verdict_of};
+ghost use Rattle.plan_check.specs.Verdicts.{as_text, compared, plan_in as the_plan_in};
+ghost use Rattle.plan_check.specs.Verdicts.{plan_of as the_plan, verdict_of};
 
 use crate::choosing::{Chosen, choose};
 use crate::refusals::Refusal;

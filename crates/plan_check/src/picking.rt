@@ -1,5 +1,6 @@
 // What the pairs at the end are.
-ghost use Rattle.std.specs.Prelude.{◌≡◌, ℕ, ◌<◌, List, length, map, filter, slice_get, Some, min, option_and_then, IfSome, if◌then◌else◌, ◌&&◌};
+ghost use Rattle.std.specs.Prelude.{◌≡◌, ℕ, ◌<◌, List, length, map, filter, slice_get, Some, min};
+ghost use Rattle.std.specs.Prelude.{option_and_then, IfSome, if◌then◌else◌, ◌&&◌};
 ghost use Rattle.std.specs.List.{find};
 ghost use Rattle.std.specs.Option.{option_map_or, option_or};
 ghost use Rattle.sas_task.specs.Runs.{cost_of};
@@ -56,10 +57,14 @@ impl Goals {
 pub fn pick(setup: &Setup, walker: &mut Walker, layer: &Layer, wanted: u64) -> Goals
     requires made { IsSetup setup.now }
     requires ready { IsWalker walker.old setup.now.task.now }
-    requires ends { (choices : List (List ℕ)) × AreEnds setup.now.task.now setup.now.layout layer.now choices }
-    ensures least { (choices : List (List ℕ)) → AreEnds setup.now.task.now setup.now.layout layer.now choices →
-        result.least ≡ the_least (map (cost_of setup.now.task.now) (filter (reaches_goal setup.now.task.now) choices)) }
-    ensures first { (choices : List (List ℕ)) → AreEnds setup.now.task.now setup.now.layout layer.now choices →
+    requires ends { (choices : List (List ℕ)) ×
+        AreEnds setup.now.task.now setup.now.layout layer.now choices }
+    ensures least { (choices : List (List ℕ)) →
+        AreEnds setup.now.task.now setup.now.layout layer.now choices →
+        result.least ≡ the_least
+        (map (cost_of setup.now.task.now) (filter (reaches_goal setup.now.task.now) choices)) }
+    ensures first { (choices : List (List ℕ)) →
+        AreEnds setup.now.task.now setup.now.layout layer.now choices →
         option_and_then (slice_get choices) result.place
         ≡ find (is_plan_at setup.now.task.now wanted) choices }
     ensures within { IfSome result.place (λ place. place < length layer.now) }

@@ -1,6 +1,7 @@
 // Why there is no plan, want of memory included.
 ghost use Rattle.std.specs.Prelude.{◌≡◌};
-ghost use Rattle.plan_check.specs.declared.refusals.Refusal.TheVariants.{Bad as TheBad, NoMemory as OutOfMemory};
+ghost use Rattle.plan_check.specs.declared.refusals.Refusal.TheVariants.{Bad as TheBad};
+ghost use Rattle.plan_check.specs.declared.refusals.Refusal.TheVariants.{NoMemory as OutOfMemory};
 
 use crate::verdicts::PlanFault;
 use lama_num::NoMemory;

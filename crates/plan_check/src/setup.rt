@@ -3,7 +3,8 @@ ghost use Rattle.std.specs.Prelude.{◌≡◌, if◌then◌else◌};
 ghost use Rattle.std.specs.List.{list_any};
 ghost use Rattle.plan_check.specs.Choices.{has_name};
 ghost use Rattle.plan_check.specs.Walking.{IsSetup};
-ghost use Rattle.plan_check.specs.declared.verdicts.PlanFault.TheVariants.{NotApplicable, NoOperator};
+ghost use Rattle.plan_check.specs.declared.verdicts.PlanFault.TheVariants.{NotApplicable};
+ghost use Rattle.plan_check.specs.declared.verdicts.PlanFault.TheVariants.{NoOperator};
 
 use crate::names::ByName;
 use crate::verdicts::PlanFault;

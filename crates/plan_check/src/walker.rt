@@ -1,5 +1,6 @@
 // From state to state of a task.
-ghost use Rattle.std.specs.Prelude.{◌≡◌, ◌<◌, ◌^◌, ℕ, List, length, slice_get, IfOk, OnOk, IsTrue, Some};
+ghost use Rattle.std.specs.Prelude.{◌≡◌, ◌<◌, ◌^◌, ℕ, List, length, slice_get, IfOk, OnOk, IsTrue};
+ghost use Rattle.std.specs.Prelude.{Some};
 ghost use Rattle.sas_task.specs.States.{step as the_step};
 ghost use Rattle.sas_task.specs.Runs.{start_of, is_goal as goal_holds, cost_at};
 ghost use Rattle.state_step.specs.Steps.{is_applicable};
@@ -52,8 +53,8 @@ impl Walker {
         self.stepper.initial(task, &mut self.here);
     }
 
-    /// Looks which operators have a name and can be taken. What `candidates` holds where memory is wanting
-    /// isn't said.
+    /// Looks which operators have a name and can be taken. What `candidates` holds where memory is
+    /// wanting isn't said.
     pub fn look(&mut self, setup: &Setup, name: &[u8]) -> Result<(), AllocError>
         requires made { IsSetup setup.now }
         requires ready { IsWalker self.old setup.now.task.now }
@@ -107,7 +108,8 @@ impl Walker {
         requires made { IsSetup setup.now }
         requires ready { IsWalker self.old setup.now.task.now }
         requires place { place < length layer.now }
-        requires ends { (choices : List (List ℕ)) × AreEnds setup.now.task.now setup.now.layout layer.now choices }
+        requires ends { (choices : List (List ℕ)) ×
+            AreEnds setup.now.task.now setup.now.layout layer.now choices }
         ensures ready { IsWalker self.new setup.now.task.now }
         ensures end { (choices : List (List ℕ)) (choice : List ℕ) →
             AreEnds setup.now.task.now setup.now.layout layer.now choices →

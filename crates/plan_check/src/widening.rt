@@ -1,12 +1,15 @@
 // A layer of pairs made from the one before it.
-ghost use Rattle.std.specs.Prelude.{◌≡◌, ℕ, suc, ◌+◌, ◌<◌, ◌≤◌, ◌^◌, List, [], ◌∷◌, ◌++◌, length, take, if◌then◌else◌, IfOk, OnOk, IfErr, IsTrue, MatchBool, None};
+ghost use Rattle.std.specs.Prelude.{◌≡◌, ℕ, suc, ◌+◌, ◌<◌, ◌≤◌, ◌^◌, List, [], ◌∷◌, ◌++◌, length};
+ghost use Rattle.std.specs.Prelude.{take, if◌then◌else◌, IfOk, OnOk, IfErr, IsTrue, MatchBool};
+ghost use Rattle.std.specs.Prelude.{None};
 ghost use Rattle.std.specs.List.{list_any, list_all};
 ghost use Rattle.std.specs.Str.{bytes_eq};
 ghost use Rattle.sas_task.specs.States.{IsState};
 ghost use Rattle.packed_state.specs.Packing.{CanHold};
 ghost use Rattle.state_step.specs.Steps.{is_applicable};
 ghost use Rattle.plan_check.specs.Verdicts.{ends, pairs_after, first_fault};
-ghost use Rattle.plan_check.specs.Layers.{pair_words, longer, one_each, LeadOn, IsLayer, IsGrowing, IsGrown, IsAfter, IsFirstFault, EndsAt, told_fault};
+ghost use Rattle.plan_check.specs.Layers.{pair_words, longer, one_each, LeadOn, IsLayer, IsGrowing};
+ghost use Rattle.plan_check.specs.Layers.{IsGrown, IsAfter, IsFirstFault, EndsAt, told_fault};
 ghost use Rattle.plan_check.specs.Walking.{IsSetup, IsWalker};
 
 use crate::layers::Layer;
@@ -75,8 +78,10 @@ fn add_after(
     ensures candidates { walker.new.candidates ≡ walker.old.candidates }
     ensures kept { OnOk result (LeadOn links.old.items links.new.items) }
     ensures grown { OnOk result ((choice : List ℕ) (done : List (List ℕ)) (first steps : ℕ) →
-        EndsAt setup.now.task.now links.old.items steps link.from choice walker.old.here.items cost →
-        IsGrowing setup.now.task.now setup.now.layout links.old.items first (suc steps) layer.old done →
+        EndsAt setup.now.task.now links.old.items steps link.from choice
+        walker.old.here.items cost →
+        IsGrowing setup.now.task.now setup.now.layout links.old.items first
+        (suc steps) layer.old done →
         IsGrowing setup.now.task.now setup.now.layout links.new.items first (suc steps) layer.new
         (done ++ (choice ++ link.op ∷ []) ∷ [])) }
 {
@@ -100,7 +105,8 @@ fn widen(
     requires ready { IsWalker walker.old setup.now.task.now }
     requires state { IsState setup.now.task.now.variables walker.old.here.items }
     requires low { cost < 2 ^ 63 }
-    requires found { IsTrue (list_all (is_applicable setup.now.task.now walker.old.here.items) walker.old.candidates.items) }
+    requires found { IsTrue (list_all
+        (is_applicable setup.now.task.now walker.old.here.items) walker.old.candidates.items) }
     requires few { length layer.old ≤ 65536 }
     ensures ready { IsWalker walker.new setup.now.task.now }
     ensures kept { OnOk result (LeadOn links.old.items links.new.items) }
@@ -108,11 +114,13 @@ fn widen(
     ensures wider { IfOk result (λ room.
         (choice : List ℕ) (done : List (List ℕ)) (first steps : ℕ) →
         EndsAt setup.now.task.now links.old.items steps from choice walker.old.here.items cost →
-        IsGrowing setup.now.task.now setup.now.layout links.old.items first (suc steps) layer.old done →
+        IsGrowing setup.now.task.now setup.now.layout links.old.items first
+        (suc steps) layer.old done →
         MatchBool room
         (IsGrowing setup.now.task.now setup.now.layout links.new.items first (suc steps) layer.new
         (done ++ longer choice walker.old.candidates.items))
-        (65536 < length (one_each setup.now.task.now (done ++ longer choice walker.old.candidates.items)))) }
+        (65536 < length (one_each setup.now.task.now
+        (done ++ longer choice walker.old.candidates.items)))) }
 {
     for i in 0..walker.candidates.len() {
         let op = walker.candidates[i];
@@ -144,7 +152,8 @@ fn fill(
     requires none { layer.old ≡ [] }
     ensures ready { IsWalker walker.new setup.now.task.now }
     ensures filled { IfOk result (λ room. MatchBool room
-        (IsGrown setup.now.task.now setup.now.layout names.now links.new.items (length links.old.items)
+        (IsGrown setup.now.task.now setup.now.layout names.now links.new.items
+        (length links.old.items)
         (suc count) layer.new)
         (65536 < pairs_after setup.now.task.now names.now (suc count))) }
 {
@@ -195,7 +204,8 @@ pub fn next_layer(
     requires count { count < length names.now }
     requires few { length names.now ≤ 67108864 }
     requires together { length links.old.items ≤ 67108864 }
-    requires last { IsAfter setup.now.task.now setup.now.layout names.now links.old.items last.now.first count last.now.layer }
+    requires last { IsAfter setup.now.task.now setup.now.layout names.now links.old.items
+        last.now.first count last.now.layer }
     requires no_fault { first_fault setup.now.task.now names.now count ≡ None }
     ensures ready { IsWalker walker.new setup.now.task.now }
     ensures together { OnOk result (length links.new.items ≤ 67108864) }

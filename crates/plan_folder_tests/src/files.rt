@@ -109,7 +109,8 @@ fn a_plan_is_kept(rt: HostRuntime) -> Result<(), Ended> {
     Ok(())
 }
 
-/// Whether a folder with a second plan's file, and others, holds just the plans after it was sealed.
+/// Whether a folder with a second plan's file, and others, holds just the plans after it was
+/// sealed.
 fn is_sealed(alloc: Global, second: &str) -> Result<bool, Ended> {
     let task = task(alloc, three_places())?;
     let kept = [plan(alloc, &[2])?, plan(alloc, &[0, 1])?];

@@ -1,6 +1,7 @@
 // Why bytes are no plan file.
 ghost use Rattle.std.specs.Prelude.{◌≡◌};
-ghost use Rattle.plan_text.specs.declared.faults.PlanTextError.TheVariants.{Bad as TheBad, NoMemory as OutOfMemory};
+ghost use Rattle.plan_text.specs.declared.faults.PlanTextError.TheVariants.{Bad as TheBad};
+ghost use Rattle.plan_text.specs.declared.faults.PlanTextError.TheVariants.{NoMemory as OutOfMemory};
 
 use std::alloc::{AllocError, AllocFailed};
 use thiserror::Error;

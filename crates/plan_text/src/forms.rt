@@ -3,7 +3,9 @@ ghost use Rattle.std.specs.Prelude.{◌≡◌, option_map, codes};
 ghost use Rattle.std.specs.Char.{is_ascii_digit};
 ghost use Rattle.std.specs.List.{list_all};
 ghost use Rattle.lama_num.specs.Decimals.{is_decimal as decimal_test};
-ghost use Rattle.plan_text.specs.PlanLines.{behind as the_behind, before as the_before, step_name as the_step_name, digits_in as the_digits, cost_digits as the_cost_digits, cost_in as the_cost};
+ghost use Rattle.plan_text.specs.PlanLines.{behind as the_behind, before as the_before};
+ghost use Rattle.plan_text.specs.PlanLines.{step_name as the_step_name, digits_in as the_digits};
+ghost use Rattle.plan_text.specs.PlanLines.{cost_digits as the_cost_digits, cost_in as the_cost};
 
 use text_lines::{is_blank, trimmed};
 

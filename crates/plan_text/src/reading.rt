@@ -1,10 +1,13 @@
 // The reader of plan files.
-ghost use Rattle.std.specs.Prelude.{◌≡◌, ◌+◌, ◌<◌, ◌≤◌, ◌^◌, ◌++◌, [], ◌∷◌, length, drop, MatchOption, OnOk, IfOk};
+ghost use Rattle.std.specs.Prelude.{◌≡◌, ◌+◌, ◌<◌, ◌≤◌, ◌^◌, ◌++◌, [], ◌∷◌, length, drop};
+ghost use Rattle.std.specs.Prelude.{MatchOption, OnOk, IfOk};
 ghost use Rattle.std.specs.List.{prefix_len};
 ghost use Rattle.lama_num.specs.Decimals.{decimal_of};
 ghost use Rattle.lama_num.specs.Gives.{Gives};
 ghost use Rattle.text_lines.specs.Lines.{lines_of};
-ghost use Rattle.plan_text.specs.PlanLines.{fault_of, is_step, names_in_front, only_empty, or_fault, no_cost as the_no_cost, ending, plan_lines, plan_lines_of, is_finished as finished_test};
+ghost use Rattle.plan_text.specs.PlanLines.{fault_of, is_step, names_in_front, only_empty};
+ghost use Rattle.plan_text.specs.PlanLines.{or_fault, no_cost as the_no_cost, ending, plan_lines};
+ghost use Rattle.plan_text.specs.PlanLines.{plan_lines_of, is_finished as finished_test};
 
 use crate::faults::{PlanTextError, PlanTextFault};
 use crate::forms::{cost_in, step_name};
@@ -37,10 +40,12 @@ fn read_steps<'a>(
     cursor: &mut Cursor<'a>,
     names: &mut Vec<Seq<u8>>,
 ) -> Result<Option<&'a [u8]>, AllocError>
-    ensures names { OnOk result (names.new.items ≡ names.old.items ++ names_in_front cursor.old.left) }
+    ensures names { OnOk result
+        (names.new.items ≡ names.old.items ++ names_in_front cursor.old.left) }
     ensures next { IfOk result (λ next. MatchOption next
         (drop (prefix_len is_step cursor.old.left) cursor.old.left ≡ [])
-        (λ line. (drop (prefix_len is_step cursor.old.left) cursor.old.left ≡ line.now ∷ cursor.new.left)
+        (λ line. (drop (prefix_len is_step cursor.old.left) cursor.old.left ≡
+        line.now ∷ cursor.new.left)
         × (cursor.new.line ≡ cursor.old.line + prefix_len is_step cursor.old.left + 1))) }
 {
     loop {
@@ -119,7 +124,8 @@ fn is_finished(bytes: &[u8]) -> bool
 }
 
 fn read_lines(alloc: Global, bytes: &[u8]) -> Result<PlanLines, PlanTextError>
-    ensures { Gives fault_of (λ lines. lines) result (plan_lines (finished_test bytes.now) (lines_of bytes.now)) }
+    ensures { Gives fault_of (λ lines. lines) result
+        (plan_lines (finished_test bytes.now) (lines_of bytes.now)) }
 {
     let mut cursor = Cursor::new(bytes);
     let mut names = Vec::new(alloc);
@@ -137,9 +143,10 @@ fn read_lines(alloc: Global, bytes: &[u8]) -> Result<PlanLines, PlanTextError>
 
 /// What the lines of a plan file tell, or the first fault.
 ///
-/// Lines are cut at line feeds, and blanks and carriage returns at their ends are dropped. Steps come
-/// first: lines in parentheses, which have a name between them. Then a line `; cost = N (unit cost)` or
-/// `; cost = N (general cost)`, and behind that only empty lines. The text is read in one pass.
+/// Lines are cut at line feeds, and blanks and carriage returns at their ends are dropped. Steps
+/// come first: lines in parentheses, which have a name between them. Then a line `; cost = N (unit
+/// cost)` or `; cost = N (general cost)`, and behind that only empty lines. The text is read in one
+/// pass.
 #[tactic(auto, unfolding(crate::specs::PlanLines::plan_lines_of))]
 pub fn lines(alloc: Global, bytes: &[u8]) -> Result<PlanLines, PlanTextError>
     // What the text gives, or its first fault.

@@ -1,6 +1,8 @@
 // The text of a plan.
-ghost use Rattle.std.specs.Prelude.{◌≡◌, ◌<◌, ◌^◌, ◌++◌, length, slice_index, EachIndex, IfOk, OnOk};
-ghost use Rattle.plan_text.specs.PlanText.{kind_of_cost as the_kind, step_line, cost_line, plan_text};
+ghost use Rattle.std.specs.Prelude.{◌≡◌, ◌<◌, ◌^◌, ◌++◌, length, slice_index, EachIndex, IfOk};
+ghost use Rattle.std.specs.Prelude.{OnOk};
+ghost use Rattle.plan_text.specs.PlanText.{kind_of_cost as the_kind, step_line, cost_line};
+ghost use Rattle.plan_text.specs.PlanText.{plan_text};
 
 use itoa::Buffer;
 use lama_num::NoMemory;

@@ -3,7 +3,9 @@ ghost use Rattle.std.specs.Prelude.{◌≡◌, IfOk, map, nat_lt, string_bytes, 
 ghost use Rattle.lama_num.specs.Gives.{Gives};
 ghost use Rattle.portfolio_text.specs.AliasNames.{alias_of};
 ghost use Rattle.run_words.specs.Accepted.{IsAccepted};
-ghost use Rattle.run_words.specs.Requests.{chosen, clashes as clash_test, has_task as task_test, if_alias, is_limitless as limitless_test, or_bad, refusal, request_by, request_of, works};
+ghost use Rattle.run_words.specs.Requests.{chosen, clashes as clash_test, has_task as task_test};
+ghost use Rattle.run_words.specs.Requests.{if_alias, is_limitless as limitless_test, or_bad};
+ghost use Rattle.run_words.specs.Requests.{refusal, request_by, request_of, works};
 ghost use Rattle.run_words.specs.Seen.{seen, text_of};
 
 use crate::faults::{Asked, WordsError, WordsFault};
@@ -49,7 +51,8 @@ fn named(name: Option<&str>) -> Result<Chosen, WordsFault>
 
 fn work(alloc: Global, given: &Given) -> Result<Chosen, WordsError>
     ensures { Gives refusal (λ work. work) result (or_bad
-        (chosen (text_of given.now.alias) (text_of given.now.search) (text_of given.now.portfolio))) }
+        (chosen (text_of given.now.alias) (text_of given.now.search)
+        (text_of given.now.portfolio))) }
 {
     match (given.portfolio, given.search) {
         (Some(name), _) => Ok(Chosen::Portfolio(Text::copy(alloc, name)?)),
@@ -75,7 +78,8 @@ fn clashes(base: &str, given: &Given) -> bool
 // The request of a line.
 #[tactic(auto, unfolding(crate::specs::Requests::request_by))]
 fn request(alloc: Global, given: &Given) -> Result<Request, WordsError>
-    ensures exact { Gives refusal (λ request. request) result (or_bad (request_by (seen given.now))) }
+    ensures exact { Gives refusal (λ request. request) result
+        (or_bad (request_by (seen given.now))) }
     ensures accepted { IfOk result IsAccepted }
 {
     if !has_task(given) {
@@ -111,7 +115,8 @@ fn request(alloc: Global, given: &Given) -> Result<Request, WordsError>
 /// wrong with the line is answered, in the order of the definition.
 #[tactic(auto, unfolding(crate::specs::Requests::request_of))]
 pub fn read(alloc: Global, words: &[String]) -> Result<Request, WordsError>
-    ensures exact { Gives refusal (λ request. request) result (request_of (map string_bytes words.now)) }
+    ensures exact { Gives refusal (λ request. request) result
+        (request_of (map string_bytes words.now)) }
     ensures accepted { IfOk result IsAccepted }
 {
     let given = line(alloc, words)?;

@@ -3,7 +3,8 @@ ghost use Rattle.std.specs.Prelude.{◌≡◌, IfOk, map, string_bytes};
 ghost use Rattle.clap.specs.Faults.{fault_of};
 ghost use Rattle.clap.specs.Simple.{app_of, matches_of, with_rule};
 ghost use Rattle.clap.specs.Values.{kind_of};
-ghost use Rattle.run_words.specs.Command.{named_rule, flag_rule, task_rule, the_command, Answers, error_by};
+ghost use Rattle.run_words.specs.Command.{named_rule, flag_rule, task_rule, the_command, Answers};
+ghost use Rattle.run_words.specs.Command.{error_by};
 
 use crate::faults::{WordsError, WordsFault};
 use clap::error::ErrorKind;
@@ -25,7 +26,8 @@ fn with_option<'a>(
     command: Command<'a>,
     name: &'a str,
 ) -> Result<Command<'a>, AllocError>
-    ensures { IfOk result (λ c. app_of c ≡ with_rule (app_of command.entry) (named_rule name.entry.now)) }
+    ensures { IfOk result
+        (λ c. app_of c ≡ with_rule (app_of command.entry) (named_rule name.entry.now)) }
 {
     command.arg(Arg::new(alloc, name).long(name).action(ArgAction::Set))
 }
@@ -35,7 +37,8 @@ fn with_flag<'a>(
     command: Command<'a>,
     name: &'a str,
 ) -> Result<Command<'a>, AllocError>
-    ensures { IfOk result (λ c. app_of c ≡ with_rule (app_of command.entry) (flag_rule name.entry.now)) }
+    ensures { IfOk result
+        (λ c. app_of c ≡ with_rule (app_of command.entry) (flag_rule name.entry.now)) }
 {
     command.arg(Arg::new(alloc, name).long(name).action(ArgAction::SetTrue))
 }

@@ -1,6 +1,7 @@
 // Why words make no request.
 ghost use Rattle.std.specs.Prelude.{◌≡◌};
-ghost use Rattle.run_words.specs.declared.faults.WordsError.TheVariants.{Bad as TheBad, NoMemory as OutOfMemory};
+ghost use Rattle.run_words.specs.declared.faults.WordsError.TheVariants.{Bad as TheBad};
+ghost use Rattle.run_words.specs.declared.faults.WordsError.TheVariants.{NoMemory as OutOfMemory};
 
 use std::alloc::{AllocError, AllocFailed};
 use thiserror::Error;

@@ -1,8 +1,10 @@
 // Names of files that words give.
 ghost use Rattle.std.specs.Prelude.{◌≡◌, not, nat_eq, option_map};
 ghost use Rattle.std.specs.List.{list_all};
-ghost use Rattle.run_words.specs.OwnNames.{is_plan_number as number_test, begins_with_digit as digit_test};
-ghost use Rattle.run_words.specs.OwnNames.{is_of_child as child_test, is_own_ending as ending_test, is_own_name as own_test};
+ghost use Rattle.run_words.specs.OwnNames.{is_plan_number as number_test};
+ghost use Rattle.run_words.specs.OwnNames.{begins_with_digit as digit_test};
+ghost use Rattle.run_words.specs.OwnNames.{is_of_child as child_test, is_own_ending as ending_test};
+ghost use Rattle.run_words.specs.OwnNames.{is_own_name as own_test};
 ghost use Rattle.run_words.specs.Requests.{is_file_name as name_test, is_own as own_if_given};
 
 use itoa::Buffer;

@@ -1,11 +1,16 @@
 // The values of a line.
-ghost use Rattle.std.specs.Prelude.{◌≡◌, ◌*◌, ◌≤◌, IfOk, IfSome, codes, is_some, option_and_then, option_map, unwrap_or};
+ghost use Rattle.std.specs.Prelude.{◌≡◌, ◌*◌, ◌≤◌, IfOk, IfSome, codes, is_some, option_and_then};
+ghost use Rattle.std.specs.Prelude.{option_map, unwrap_or};
 ghost use Rattle.lama_num.specs.Decimals.{decimal_of};
 ghost use Rattle.lama_num.specs.Names.{base_of};
-ghost use Rattle.run_words.specs.Requests.{needed as value_needed, wanted, up_to as the_number_up_to, number_to as the_number, unit_of, seconds_of, limit_of, kib_of, refused_if, is_no_name, values_of};
+ghost use Rattle.run_words.specs.Requests.{needed as value_needed, wanted};
+ghost use Rattle.run_words.specs.Requests.{up_to as the_number_up_to, number_to as the_number};
+ghost use Rattle.run_words.specs.Requests.{unit_of, seconds_of, limit_of, kib_of, refused_if};
+ghost use Rattle.run_words.specs.Requests.{is_no_name, values_of};
 ghost use Rattle.run_words.specs.Accepted.{IsBase, IsLimit, IsMade, IsMemory, AreWithin};
 ghost use Rattle.run_words.specs.Seen.{seen, text_of};
-ghost use Rattle.run_words.specs.declared.faults.Opt.TheVariants.{PlanFile, Bound, TimeLimit, ChildMemory, Gen};
+ghost use Rattle.run_words.specs.declared.faults.Opt.TheVariants.{PlanFile, Bound, TimeLimit};
+ghost use Rattle.run_words.specs.declared.faults.Opt.TheVariants.{ChildMemory, Gen};
 ghost use Rattle.run_words.specs.declared.faults.WordsFault.TheVariants.{BadValue};
 
 use crate::faults::{Opt, WordsFault};
@@ -54,7 +59,8 @@ fn unit(letter: u8) -> Option<u64>
 // A decimal of units, in seconds.
 fn seconds_in(digits: &[u8], unit: u64) -> Option<u64>
     ensures same { result
-        ≡ option_and_then (the_number_up_to 1000000) (option_map (λ n. n * unit) (decimal_of digits.now)) }
+        ≡ option_and_then (the_number_up_to 1000000)
+        (option_map (λ n. n * unit) (decimal_of digits.now)) }
     ensures within { IfSome result (λ n. (1 ≤ n) × (n ≤ 1000000)) }
 {
     up_to(1_000_000, read_decimal(digits)?.checked_mul(unit)?)

@@ -1,5 +1,6 @@
 // The states, by how many words each takes.
-ghost use Rattle.std.specs.Prelude.{◌≡◌, ◌<◌, ◌≤◌, ℕ, List, [], length, slice_get, IfOk, OnErr, Some};
+ghost use Rattle.std.specs.Prelude.{◌≡◌, ◌<◌, ◌≤◌, ℕ, List, [], length, slice_get, IfOk, OnErr};
+ghost use Rattle.std.specs.Prelude.{Some};
 ghost use Rattle.state_registry.specs.Interning.{Interns, IsAbsent};
 ghost use Rattle.state_registry.specs.Widths.{states_of, width_or};
 
@@ -84,7 +85,9 @@ impl Sets {
     ) -> Result<Interned, NoMemory>
         requires long { width_or self.old (length packed.now) ≡ length packed.now }
         requires few { length (states_of self.old) ≤ most }
-        ensures ok { IfOk result (λ interned. Interns (states_of self.old) most packed.now interned (states_of self.new)) }
+        ensures ok { IfOk result
+            (λ interned. Interns (states_of self.old) most packed.now interned
+            (states_of self.new)) }
         ensures err { OnErr result (states_of self.new ≡ states_of self.old) }
         ensures only_new { OnErr result (IsAbsent (states_of self.old) packed.now) }
         ensures width { (words : ℕ) → width_or self.new words ≡ width_or self.old words }

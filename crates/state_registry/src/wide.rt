@@ -1,5 +1,6 @@
 // States of many words.
-ghost use Rattle.std.specs.Prelude.{◌≡◌, ◌<◌, ◌≤◌, ℕ, List, [], length, slice_get, IfOk, OnErr, Some};
+ghost use Rattle.std.specs.Prelude.{◌≡◌, ◌<◌, ◌≤◌, ℕ, List, [], length, slice_get, IfOk, OnErr};
+ghost use Rattle.std.specs.Prelude.{Some};
 ghost use Rattle.state_registry.specs.Interning.{Interns, IsAbsent};
 
 use crate::interned::Interned;

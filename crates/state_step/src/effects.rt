@@ -8,15 +8,15 @@ ghost use Rattle.state_step.specs.Steps.{effect_is_within};
 ghost use Rattle.state_step.specs.Tables.{effect_of, is_row};
 
 use crate::tables::Change;
-use axiom_eval::all_hold;
 use lama_num::Rows;
-use sas_task::Fact;
+use sas_task::{Fact, all_hold};
 
 /// Whether the conditions of a change hold.
 fn fires(state: &[u32], conds: &Rows<Fact>, change: &Change) -> bool
     requires none { row_at conds.now 0 ≡ [] }
     requires row { change.now.conds < length conds.now }
-    requires facts { IsTrue (list_all (is_within (length state.now)) (row_at conds.now change.now.conds)) }
+    requires facts { IsTrue
+        (list_all (is_within (length state.now)) (row_at conds.now change.now.conds)) }
     ensures { result ≡ effect_fires state.now (effect_of conds.now change.now) }
 {
     change.conds == 0 || all_hold(state, conds.row(change.conds as usize))
@@ -27,7 +27,8 @@ pub fn write_changes(state: &[u32], conds: &Rows<Fact>, changes: &[Change], out:
     requires long { length out.old ≡ length state.now }
     requires none { row_at conds.now 0 ≡ [] }
     requires rows { IsTrue (list_all (is_row (length conds.now)) changes.now) }
-    requires facts { IsTrue (list_all (effect_is_within (length state.now)) (map (effect_of conds.now) changes.now)) }
+    requires facts { IsTrue
+        (list_all (effect_is_within (length state.now)) (map (effect_of conds.now) changes.now)) }
     ensures { out.new ≡ written state.now (map (effect_of conds.now) changes.now) }
 {
     out.copy_from_slice(state);

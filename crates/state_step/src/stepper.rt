@@ -1,5 +1,6 @@
 // Steps and runs of a task.
-ghost use Rattle.std.specs.Prelude.{◌≡◌, ◌<◌, ◌^◌, length, slice_index, EachIndex, IsTrue, IfOk, Some};
+ghost use Rattle.std.specs.Prelude.{◌≡◌, ◌<◌, ◌^◌, length, slice_index, EachIndex, IsTrue, IfOk};
+ghost use Rattle.std.specs.Prelude.{Some};
 ghost use Rattle.sas_task.specs.States.{step};
 ghost use Rattle.sas_task.specs.Runs.{start_of, is_goal as goal_holds};
 ghost use Rattle.state_step.specs.Stepper.{IsFor};
@@ -9,9 +10,9 @@ ghost use Rattle.state_step.specs.RunEnds.{Ends};
 use crate::effects::write_changes;
 use crate::runs::RunEnd;
 use crate::tables::{Operators, tables_of};
-use axiom_eval::{Axioms, all_hold};
+use axiom_eval::Axioms;
 use lama_num::NoMemory;
-use sas_task::Task;
+use sas_task::{Task, all_hold};
 use std::alloc::Global;
 use std::marker::Model;
 use std::mem::swap;
@@ -88,8 +89,8 @@ impl Stepper {
         all_hold(state, &task.parts().goal)
     }
 
-    /// Runs operators, by their numbers, from the initial state. What `one` and `two` hold afterwards
-    /// isn't said.
+    /// Runs operators, by their numbers, from the initial state. What `one` and `two` hold
+    /// afterwards isn't said.
     pub fn run_plan(&mut self, task: &Task, ops: &[u32], one: &mut [u32], two: &mut [u32]) -> RunEnd
         requires same_task { IsFor self.old task.now }
         requires ops { EachIndex ops.now (λ k. slice_index ops.now k < length task.now.operators) }

@@ -1,9 +1,9 @@
 // Derived variables: what settling makes of values, and what they become after an operator.
 ghost use Rattle.std.specs.Prelude.{◌≡◌, ◌<◌, ◌↔◌, IsTrue, length};
 
-use axiom_eval::{Axioms, all_hold};
+use axiom_eval::Axioms;
 use lama_num::NoMemory;
-use sas_task::{Fact, Task};
+use sas_task::{Fact, Task, all_hold};
 use state_step::Stepper;
 use std::alloc::Global;
 use std::process::Abort;

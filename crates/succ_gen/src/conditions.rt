@@ -6,8 +6,8 @@ use lama_num::{NoMemory, Rows};
 use sas_task::{Fact, Operator};
 use std::alloc::Global;
 
-/// The preconditions of each operator, by variable and value, so that operators share what they have
-/// in common.
+/// The preconditions of each operator, by variable and value, so that operators share what they
+/// have in common.
 pub fn conditions_of(alloc: Global, operators: &[Operator]) -> Result<Rows<Fact>, NoMemory>
     ensures { IfOk result (λ conditions. AreConditions operators.now conditions) }
 {

@@ -48,7 +48,9 @@ fn place(
     steps: &mut Vec<Step>,
 ) -> Result<(), AllocError>
     requires { operator < length conditions.now }
-    ensures { OnOk result (IsPlaced conditions.now depth node operator homes.old.items homes.new.items steps.old.items steps.new.items) }
+    ensures { OnOk result
+        (IsPlaced conditions.now depth node operator homes.old.items homes.new.items
+        steps.old.items steps.new.items) }
 {
     match conditions.row(operator as usize).get(depth) {
         Some(fact) => {
@@ -64,7 +66,8 @@ fn place(
     Ok(())
 }
 
-/// The number of the last node, if it has 32 bits: where there are more, there is no memory for them.
+/// The number of the last node, if it has 32 bits: where there are more, there is no memory for
+/// them.
 fn last_node(branches: &[Branch]) -> Result<u32, NoMemory>
     ensures node { IfOk result (λ node. node ≡ length branches.now) }
     ensures few { OnOk result (length branches.now < 4294967294) }
@@ -103,7 +106,8 @@ fn take_steps(
     requires level { IsLevel conditions.now depth branches.old.items homes.old.items steps.now }
     requires order { AreInOrder steps.now }
     requires none { next.old.items ≡ [] }
-    ensures { OnOk result (IsLevel conditions.now (depth + 1) branches.new.items homes.new.items next.new.items) }
+    ensures { OnOk result
+        (IsLevel conditions.now (depth + 1) branches.new.items homes.new.items next.new.items) }
 {
     for step in steps {
         let node = match node_for(branches, step) {

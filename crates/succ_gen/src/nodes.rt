@@ -1,5 +1,6 @@
 // The nodes of a tree in one vector.
-ghost use Rattle.std.specs.Prelude.{◌≡◌, ◌<◌, ◌≤◌, ◌+◌, ◌^◌, ℕ, nat_eq, ◌&&◌, length, map, slice_get, Some, IfOk};
+ghost use Rattle.std.specs.Prelude.{◌≡◌, ◌<◌, ◌≤◌, ◌+◌, ◌^◌, ℕ, nat_eq, ◌&&◌, length, map};
+ghost use Rattle.std.specs.Prelude.{slice_get, Some, IfOk};
 ghost use Rattle.std.specs.List.Sorted.{IsNonDecreasingBy};
 ghost use Rattle.succ_gen.specs.declared.growing.Branch.{Branch as TheBranch};
 ghost use Rattle.succ_gen.specs.Growing.{parent_of, node_of, operators_at};
@@ -10,8 +11,8 @@ use lama_num::NoMemory;
 use sas_task::Fact;
 use std::alloc::{AllocError, Global};
 
-/// A node of a tree. Node 0 is the root, and behind the nodes stands one more, where the children and
-/// operators of the last one end.
+/// A node of a tree. Node 0 is the root, and behind the nodes stands one more, where the children
+/// and operators of the last one end.
 ///
 /// The children of a node are numbered one after the other, ascending by variable and value.
 #[derive(Clone, Copy, Debug)]
@@ -80,7 +81,8 @@ fn group_end(branches: &[Branch], number: usize, known: usize) -> usize
 
 /// The fact of the branch that leads to a node. None leads to the root.
 fn fact_to(branches: &[Branch], number: usize) -> Fact
-    ensures { (c : ℕ) (b : TheBranch) → number ≡ c + 1 → slice_get branches.now c ≡ Some b → result ≡ b.fact }
+    ensures { (c : ℕ) (b : TheBranch) → number ≡ c + 1 → slice_get branches.now c ≡ Some b →
+        result ≡ b.fact }
 {
     if number == 0 || number > branches.len() {
         return Fact { var: 0, val: 0 };

@@ -31,12 +31,16 @@ impl Model for Tree {
 
     ghost Value = { Stored };
 
-    ghost view = { λ t. record { nodes = t.nodes; operators = t.operators; room = vec_capacity t.reached } };
+    ghost view = { λ t. record {
+      nodes = t.nodes;
+      operators = t.operators;
+      room = vec_capacity t.reached;
+    } };
 }
 
 impl Tree {
-    /// The tree of a task's operators, in time that grows with the number of all preconditions times
-    /// its logarithm.
+    /// The tree of a task's operators, in time that grows with the number of all preconditions
+    /// times its logarithm.
     pub fn new(alloc: Global, task: &Task) -> Result<Tree, NoMemory>
         ensures { IfOk result (λ tree. IsFor tree task.now) }
     {

@@ -1,5 +1,6 @@
 // The walk through a tree, from the root to the nodes that a state opens.
-ghost use Rattle.std.specs.Prelude.{◌≡◌, ◌<◌, ◌≤◌, ◌+◌, ◌++◌, [], length, slice_index, vec_len, vec_capacity};
+ghost use Rattle.std.specs.Prelude.{◌≡◌, ◌<◌, ◌≤◌, ◌+◌, ◌++◌, [], length, slice_index, vec_len};
+ghost use Rattle.std.specs.Prelude.{vec_capacity};
 ghost use Rattle.std.specs.List.{flat_map};
 ghost use Rattle.succ_gen.specs.Trees.{node_at, IsTree, HasVariables, AreInside, operators_of};
 ghost use Rattle.succ_gen.specs.Walks.{Rises, IsSought, opened, open_children, AreFound};
@@ -30,7 +31,8 @@ fn search(nodes: &[Node], from: usize, to: usize, value: u32) -> Option<usize>
 
 /// The node that has a value, of the group that begins at a node.
 ///
-/// Where no value is left out, the node is as far from the first as its value is; else it is nearer.
+/// Where no value is left out, the node is as far from the first as its value is; else it is
+/// nearer.
 fn find(nodes: &[Node], start: usize, end: usize, value: u32) -> Option<usize>
     requires rises { Rises nodes.now start end }
     requires some { start < end }
@@ -56,7 +58,8 @@ fn reach_group(nodes: &[Node], state: &[u32], start: usize, reached: &mut Vec<u3
     requires end { (node_at nodes.now start).group_end < length nodes.now }
     requires room { vec_len reached.old < vec_capacity reached.old }
     ensures end { result ≡ (node_at nodes.now start).group_end }
-    ensures reached { reached.new.items ≡ reached.old.items ++ opened nodes.now state.now start result }
+    ensures reached { reached.new.items ≡
+        reached.old.items ++ opened nodes.now state.now start result }
     ensures few { vec_len reached.new ≤ vec_len reached.old + 1 }
     ensures room { vec_capacity reached.new ≡ vec_capacity reached.old }
 {
@@ -75,7 +78,8 @@ fn reach_children(nodes: &[Node], state: &[u32], node: usize, reached: &mut Vec<
     requires node { node + 1 < length nodes.now }
     requires few { vec_len reached.old ≤ (node_at nodes.now node).children }
     requires room { length nodes.now ≤ vec_capacity reached.old + 1 }
-    ensures reached { reached.new.items ≡ reached.old.items ++ open_children nodes.now state.now node }
+    ensures reached { reached.new.items ≡
+        reached.old.items ++ open_children nodes.now state.now node }
     ensures few { vec_len reached.new ≤ (node_at nodes.now (node + 1)).children }
     ensures room { vec_capacity reached.new ≡ vec_capacity reached.old }
 {

@@ -5,7 +5,8 @@ ghost use Rattle.std.specs.String.{string_bytes};
 ghost use Rattle.task_gen.specs.Delivery.{places, packages, starts_at, ends_at, fact_of, giving};
 ghost use Rattle.task_gen.specs.Delivery.{truck_at, at_place, inside, IsPackageCount};
 ghost use Rattle.task_gen.specs.Delivery.{truck_of, package_of};
-ghost use Rattle.task_gen.specs.Delivery.{move_to as the_move, load as the_load, unload as the_unload};
+ghost use Rattle.task_gen.specs.Delivery.{move_to as the_move, load as the_load};
+ghost use Rattle.task_gen.specs.Delivery.{unload as the_unload};
 ghost use Rattle.task_gen.specs.Delivery.{moves, loads, loads_of, delivery};
 ghost use Rattle.task_gen.specs.ReadBack.{has_line_names};
 

@@ -9,7 +9,8 @@ ghost use Rattle.sas_task.specs.declared.contents.Operator.{Operator as TheOpera
 ghost use Rattle.sas_task.specs.declared.contents.Rule.{Rule as TheRule};
 ghost use Rattle.sas_reader.specs.Reading.{most_bytes};
 ghost use Rattle.task_gen.specs.Printed.{counted, version_lines, metric_lines, variable_lines};
-ghost use Rattle.task_gen.specs.Printed.{fact_words, fact_lines, group_lines, state_lines, goal_lines};
+ghost use Rattle.task_gen.specs.Printed.{fact_words, fact_lines, group_lines, state_lines};
+ghost use Rattle.task_gen.specs.Printed.{goal_lines};
 ghost use Rattle.task_gen.specs.Printed.{number_or_none, behind_blanks, effect_line};
 ghost use Rattle.task_gen.specs.Printed.{operator_lines, head_line, rule_lines, task_text};
 ghost use Rattle.task_gen.specs.ReadBack.{has_line_names, IsReadBack};

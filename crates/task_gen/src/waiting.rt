@@ -86,7 +86,8 @@ fn take_left(
 ) -> Result<Vec<Fact>, AllocError>
     requires within { IsTrue (list_all (is_within (length waiting.old)) pre.now) }
     requires once { distinct pre.now ≡ pre.now }
-    ensures { IfOk result (λ left. (p : TheFact → Bool) → Waits deque_items waiting.old (filter p pre.now) →
+    ensures { IfOk result
+        (λ left. (p : TheFact → Bool) → Waits deque_items waiting.old (filter p pre.now) →
         (left.items ≡ filter p pre.now) × Waits deque_items waiting.new []) }
 {
     let mut left = Vec::new(alloc);
