@@ -11,7 +11,8 @@ use Rattle.std.proofs.lemmas.Slice.Eq.{bytes_eq-Decides}
 use Rattle.lama_num.specs.Lists.{both}
 use Rattle.lama_num.specs.Decimals.{is_decimal, decimal_of}
 use Rattle.lama_num.specs.DecimalLaws.{decimal_of-decimal, decimal_of_some}
-use Rattle.text_lines.specs.Lines.{cut_lines, lines_of, is_margin, without_left, without_right, trimmed}
+use Rattle.text_lines.specs.Lines.{lines_of, trimmed}
+use Rattle.text_lines.specs.Laws.{has_no_feed, cut_lines-feed, trimmed-bare, begins_bare-reverse}
 use Rattle.sas_task.specs.declared.contents.Parts.{Parts}
 use Rattle.sas_task.specs.Costs.{is_unit_cost}
 use Rattle.sas_task.specs.Runs.{cost_of}
@@ -25,48 +26,24 @@ use Rattle.lama_num.specs.Gives.{◌>>=◌}
 use Rattle.plan_text.proofs.Stripping.{before-append}
 use Rattle.plan_text.proofs.Fronts.{passes_rest, passes_front, fails_rest, fails_front}
 
-abbrev no_feed : List ℕ → Bool
-no_feed line = list_all (λ b. not (nat_eq b 10)) line
-
--- a line with its line feed
-cut_feed : (line rest : List ℕ) → no_feed line ≡ true → cut_lines (line ++ 10 ∷ rest) ≡ line ∷ cut_lines rest
-cut_feed [] rest is = refl
-cut_feed (b ∷ bs) rest is =
-    let parts = both (not (nat_eq b 10)) (no_feed bs) is in
-    let more : cut_lines (bs ++ 10 ∷ rest) ≡ bs ∷ cut_lines rest = cut_feed bs rest parts.1 in
-    elim (nat_eq b 10) as (λ t. nat_eq b 10 ≡ t → cut_lines (b ∷ (bs ++ 10 ∷ rest)) ≡ (b ∷ bs) ∷ cut_lines rest) [
-      | true ↦ λ e. let k : false ≡ true = rw e at parts.0 in cc
-      | false ↦ λ e. rw (e, more) refl
-    ] refl
-
--- a line with other bytes at its ends stays
-trimmed_same : (b e : ℕ) (middle : List ℕ) → is_margin b ≡ false → is_margin e ≡ false → trimmed (b ∷ (middle ++ e ∷ [])) ≡ b ∷ (middle ++ e ∷ [])
-trimmed_same b e middle first last =
-    let line : List ℕ = b ∷ (middle ++ e ∷ []) in
-    let left : without_left (b ∷ (middle ++ e ∷ [])) ≡ b ∷ (middle ++ e ∷ []) = rw first refl in
-    let turned : reverse ((b ∷ middle) ++ e ∷ []) ≡ e ∷ reverse (b ∷ middle) = reverse-append (b ∷ middle) (e ∷ []) in
-    let kept : without_left (e ∷ reverse (b ∷ middle)) ≡ e ∷ reverse (b ∷ middle) = rw last refl in
-    let back : reverse (e ∷ reverse (b ∷ middle)) ≡ reverse (reverse ((b ∷ middle) ++ e ∷ [])) = ap reverse (sym turned) in
-    ap without_right left ∙ ap (λ t. reverse (without_left t)) turned ∙ ap reverse kept ∙ back ∙ reverse-reverse ((b ∷ middle) ++ e ∷ [])
-
 -- the line of a step, without its line feed
 abbrev step_of : List ℕ → List ℕ
 step_of name = 40 ∷ (name ++ 41 ∷ [])
 
 step_trimmed : (name : List ℕ) → trimmed (step_of name) ≡ step_of name
-step_trimmed name = trimmed_same 40 41 name refl refl
+step_trimmed name = trimmed-bare (step_of name) refl (begins_bare-reverse (40 ∷ name) 41 refl)
 
 -- what the test of a name tells
-fits_feed : (name : List ℕ) → fits_line name ≡ true → no_feed name ≡ true
-fits_feed name fits = (both (no_feed name) (bytes_eq (trimmed name) name) fits).0
+fits_feed : (name : List ℕ) → fits_line name ≡ true → has_no_feed name ≡ true
+fits_feed name fits = (both (has_no_feed name) (bytes_eq (trimmed name) name) fits).0
 
 fits_trimmed : (name : List ℕ) → fits_line name ≡ true → trimmed name ≡ name
-fits_trimmed name fits = (bytes_eq-Decides (trimmed name) name).0 (both (no_feed name) (bytes_eq (trimmed name) name) fits).1
+fits_trimmed name fits = (bytes_eq-Decides (trimmed name) name).0 (both (has_no_feed name) (bytes_eq (trimmed name) name) fits).1
 
-no_feed-append : (a b : List ℕ) → no_feed a ≡ true → no_feed b ≡ true → no_feed (a ++ b) ≡ true
+no_feed-append : (a b : List ℕ) → has_no_feed a ≡ true → has_no_feed b ≡ true → has_no_feed (a ++ b) ≡ true
 no_feed-append [] b one two = two
 no_feed-append (x ∷ a) b one two =
-    let parts = both (not (nat_eq x 10)) (no_feed a) one in
+    let parts = both (not (nat_eq x 10)) (has_no_feed a) one in
     rw (parts.0, no_feed-append a b parts.1 two) refl
 
 step_of-name : (name : List ℕ) → fits_line name ≡ true → step_name (step_of name) ≡ Some name
@@ -74,7 +51,7 @@ step_of-name name fits =
     let inner : before (codes ")") (name ++ codes ")") ≡ Some name = before-append (codes ")") name in
     ap (λ o. option_map trimmed o) inner ∙ ap (λ n. Some n) (fits_trimmed name fits)
 
-step_feed : (name : List ℕ) → fits_line name ≡ true → no_feed (step_of name) ≡ true
+step_feed : (name : List ℕ) → fits_line name ≡ true → has_no_feed (step_of name) ≡ true
 step_feed name fits = no_feed-append name (41 ∷ []) (fits_feed name fits) refl
 
 -- the cost line, without its line feed
@@ -91,10 +68,10 @@ cost_line-feed false cost = simp append_assoc
 cost_trimmed : (unit : Bool) (cost : ℕ) → trimmed (cost_text unit cost) ≡ cost_text unit cost
 cost_trimmed true cost =
     let shape : cost_text true cost ≡ 59 ∷ ((codes " cost = " ++ (decimal cost ++ codes " (unit cost")) ++ 41 ∷ []) = simp append_assoc in
-    rw shape (trimmed_same 59 41 (codes " cost = " ++ (decimal cost ++ codes " (unit cost")) refl refl)
+    rw shape (trimmed-bare _ refl (begins_bare-reverse (codes "; cost = " ++ (decimal cost ++ codes " (unit cost")) 41 refl))
 cost_trimmed false cost =
     let shape : cost_text false cost ≡ 59 ∷ ((codes " cost = " ++ (decimal cost ++ codes " (general cost")) ++ 41 ∷ []) = simp append_assoc in
-    rw shape (trimmed_same 59 41 (codes " cost = " ++ (decimal cost ++ codes " (general cost")) refl refl)
+    rw shape (trimmed-bare _ refl (begins_bare-reverse (codes "; cost = " ++ (decimal cost ++ codes " (general cost")) 41 refl))
 
 decimal_digits : (cost : ℕ) → cost < 2 ^ 64 → is_decimal (decimal cost) ≡ true
 decimal_digits cost small = (decimal_of_some (decimal cost) cost (decimal_of-decimal cost small)).digits
@@ -128,17 +105,17 @@ cost_no_step false cost = refl
 digit_no_feed : (c : ℕ) → is_ascii_digit c ≡ true → not (nat_eq c 10) ≡ true
 digit_no_feed c is = grind (arith, nat_tests)
 
-digits_no_feed : (ds : List ℕ) → all_ascii_digits ds ≡ true → no_feed ds ≡ true
+digits_no_feed : (ds : List ℕ) → all_ascii_digits ds ≡ true → has_no_feed ds ≡ true
 digits_no_feed [] is = refl
 digits_no_feed (d ∷ ds) is =
     let parts = both (is_ascii_digit d) (all_ascii_digits ds) is in
     rw (digit_no_feed d parts.0, digits_no_feed ds parts.1) refl
 
-decimal_no_feed : (ds : List ℕ) → is_decimal ds ≡ true → no_feed ds ≡ true
+decimal_no_feed : (ds : List ℕ) → is_decimal ds ≡ true → has_no_feed ds ≡ true
 decimal_no_feed [] is = let k : false ≡ true = is in cc
 decimal_no_feed (d ∷ ds) is = digits_no_feed (d ∷ ds) is
 
-cost_feed : (unit : Bool) (cost : ℕ) → cost < 2 ^ 64 → no_feed (cost_text unit cost) ≡ true
+cost_feed : (unit : Bool) (cost : ℕ) → cost < 2 ^ 64 → has_no_feed (cost_text unit cost) ≡ true
 cost_feed true cost small = no_feed-append (decimal cost) (32 ∷ codes "(unit cost)") (decimal_no_feed (decimal cost) (decimal_digits cost small)) refl
 cost_feed false cost small = no_feed-append (decimal cost) (32 ∷ codes "(general cost)") (decimal_no_feed (decimal cost) (decimal_digits cost small)) refl
 
@@ -161,13 +138,13 @@ module _ (parts : Parts) (unit : Bool) (cost : ℕ) (small : cost < 2 ^ 64) wher
   lines_of-text : (ops : List ℕ) → fit ops ≡ true → lines_of (text_of ops) ≡ lines_for ops
   lines_of-text [] are =
       ap lines_of (cost_line-feed unit cost)
-      ∙ ap (map trimmed) (cut_feed (cost_text unit cost) [] (cost_feed unit cost small))
+      ∙ ap (map trimmed) (cut_lines-feed (cost_text unit cost) [] (cost_feed unit cost small))
       ∙ ap (λ line. line ∷ []) (cost_trimmed unit cost)
   lines_of-text (op ∷ ops) are =
       let tests = both (fits_line (name_at parts op)) (fit ops) are in
       let name = name_at parts op in
       ap lines_of (one_step name (flat_map (λ op. step_line (name_at parts op)) ops))
-      ∙ ap (map trimmed) (cut_feed (step_of name) (text_of ops) (step_feed name tests.0))
+      ∙ ap (map trimmed) (cut_lines-feed (step_of name) (text_of ops) (step_feed name tests.0))
       ∙ ap (λ line. line ∷ lines_of (text_of ops)) (step_trimmed name)
       ∙ ap (λ lines. step_of name ∷ lines) (lines_of-text ops tests.1)
 
