@@ -1,0 +1,14 @@
+pub mod Logs
+pub mod Columns
+pub mod Members
+pub mod Phases
+pub mod Places
+pub mod Pending
+pub mod Lawful
+pub mod Ends
+pub mod Clocks
+pub mod Spaces
+pub mod Guided
+pub mod Rooms
+pub mod Sound
+pub mod Rivals
