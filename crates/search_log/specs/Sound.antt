@@ -62,4 +62,6 @@ pub record Sound (phase : Phase) (past : Past) : Type 0 where
   -- A new state's g is at most a step's above its origin's, and a visit again has less g. So g is bounded by the number of states.
   pub small : (j : ℕ) (n : Node) → slice_get past.nodes j ≡ Some n → n.place.g ≤ length (latest past.nodes) * top_cost phase.setting.cost
   pub few : length (latest past.nodes) ≤ phase.setting.most_states
+  -- a path has at most as many operators as there are visits before
+  pub short : (j : ℕ) (n : Node) → slice_get past.nodes j ≡ Some n → length n.place.path ≤ j
   pub taken : list_all (λ (p : Pop). nat_lt p.parent (length past.nodes)) past.pops ≡ true

@@ -11,11 +11,11 @@ use Rattle.search_log.specs.Phases.{Phase, is_below}
 use Rattle.search_log.specs.Places.{Node, Past, latest}
 
 -- The visited states by id, each with the real cost of its latest visit.
-abbrev pub member_of : Node → Member
-member_of n = record { state = n.place.state; cost = n.place.real }
+abbrev pub node_member : Node → Member
+node_member n = record { state = n.place.state; cost = n.place.real }
 
 abbrev pub space_of : Past → List Member
-space_of past = map member_of (latest past.nodes)
+space_of past = map node_member (latest past.nodes)
 
 abbrev pub is_normal : CostKind → Bool
 is_normal Normal = true

@@ -22,18 +22,19 @@ pub struct Log {
 }
 
 impl Model for Log {
-    ghost use Rattle.std.specs.Prelude.{◌≡◌, length, map};
+    ghost use Rattle.std.specs.Prelude.{◌≡◌, ◌<◌, ◌^◌, length, map};
     ghost use Rattle.search_log.specs.Logs.{Content};
-    ghost use Rattle.search_log.specs.Columns.{visits_of, pop_of};
+    ghost use Rattle.search_log.specs.Columns.{beside, visit_of, pop_of};
 
     ghost Value = { Content };
 
     ghost view = { λ l. record {
-        visits = visits_of l.visits.items l.preferred;
+        visits = beside visit_of l.visits.items l.preferred;
         pops = map pop_of l.pops.items
     } };
 
-    ghost invariant = { λ l. length l.preferred ≡ length l.visits.items };
+    ghost invariant = { λ l. (length l.visits.items ≡ length l.preferred) ×
+        (length l.visits.items < 2 ^ 32) };
 }
 
 // Adds a visit to both columns, or to none.
@@ -74,10 +75,14 @@ impl Log {
         ensures pops { OnOk result (self.new.pops ≡ self.old.pops) }
         ensures err { OnErr result (self.new ≡ self.old) }
     {
+        if self.visits.len() >= 4_294_967_295 {
+            return Err(NoMemory);
+        }
+        let estimates = seen.estimates;
         let visit = VisitRow {
             g,
             id,
-            estimates: seen.estimates,
+            estimates,
             dead: seen.dead,
         };
         add_visit(&mut self.visits, &mut self.preferred, visit, &seen.preferred)
@@ -105,7 +110,8 @@ impl Log {
 
     /// How many visits there are.
     pub fn visits(&self) -> usize
-        ensures { result ≡ length self.now.visits }
+        ensures count { result ≡ length self.now.visits }
+        ensures few { result < 2 ^ 32 }
     {
         self.visits.len()
     }
@@ -131,11 +137,12 @@ impl Log {
         }) }
     {
         let visit = self.visits[number];
+        let estimates = visit.estimates;
         VisitAt {
             id: visit.id,
             g: visit.g,
             dead: visit.dead,
-            estimates: visit.estimates,
+            estimates,
             preferred: self.preferred.row(number),
         }
     }

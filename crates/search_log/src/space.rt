@@ -17,11 +17,12 @@ pub struct Space {
 
 impl Model for Space {
     ghost use Rattle.std.specs.Prelude.{◌≡◌, ◌<◌, ◌^◌, List, length};
-    ghost use Rattle.search_log.specs.Members.{Member, members_of};
+    ghost use Rattle.search_log.specs.Members.{Member};
+    ghost use Rattle.search_log.specs.Columns.{beside, member_of};
 
     ghost Value = { List Member };
 
-    ghost view = { λ s. members_of s.states s.costs.items };
+    ghost view = { λ s. beside member_of s.states s.costs.items };
 
     ghost invariant = { λ s. (length s.states ≡ length s.costs.items) ×
         (length s.costs.items < 2 ^ 32) };
