@@ -16,7 +16,7 @@ use Rattle.sas_task.specs.WellFormed.{is_derived}
 use Rattle.sas_task.specs.States.{IsState, default_or, reset, settled_below, top_of}
 use Rattle.search_log.specs.Rooms.{assignments}
 use Rattle.search_log.specs.Spaces.{IsSettled}
-use Rattle.search_log.specs.Elements.{StandsIn, in-left, in-right, in-range, from-map}
+use Rattle.search_log.specs.Elements.{in-map, StandsIn, in-left, in-right, in-range, from-map}
 
 -- the values of the variables that aren't derived
 abbrev own_values : List Variable → List ℕ → List ℕ
@@ -48,9 +48,6 @@ length-all_values (v ∷ vs) = by_test (length-all_values vs) (is_some v.layer)
     by_test : length (all_values vs) ≡ assignments vs → (b : Bool) → length (if b then all_values vs else flat_map (with_each (all_values vs)) (range_with_len 0 (length v.values))) ≡ (if b then assignments vs else length v.values * assignments vs)
     by_test rest true = rest
     by_test rest false = length-with_each (all_values vs) 0 (length v.values) ∙ ap (λ (n : ℕ). length v.values * n) rest
-
-in-map : {X Y : Type 0} (f : X → Y) (xs : List X) (x : X) → StandsIn xs x → StandsIn (map f xs) (f x)
-in-map f xs x at = (at.0, slice_get-map f xs at.0 ∙ ap (option_map f) at.1)
 
 in-flat_map : {X Y : Type 0} (f : X → List Y) (xs : List X) (i : ℕ) (x : X) (y : Y) → slice_get xs i ≡ Some x → StandsIn (f x) y → StandsIn (flat_map f xs) y
 in-flat_map f [] i x y at there = cc

@@ -27,7 +27,8 @@ unfinal_push pops p b is = sum_by_push (λ (q : Pop). cond (not (is_final q.resu
 pub unfinal_more : (pops : List Pop) (p : Pop) → is_final p.result ≡ false → unfinal pops ≡ length pops → unfinal (pops ++ p ∷ []) ≡ length (pops ++ p ∷ [])
 unfinal_more pops p on all = omega (arith, unfinal_push pops p false on, all, length-append pops (p ∷ []))
 
-times : Bool → ℕ → ℕ
+-- how often it is asked after so many pops that don't end the log
+abbrev times : Bool → ℕ → ℕ
 times stopped n = if stopped then 1 + n / 256 else 0
 
 -- a pop that ends the log, or after which the number of pops is no multiple of 256: the clock isn't asked

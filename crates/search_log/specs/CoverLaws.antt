@@ -6,14 +6,14 @@ use Rattle.std.proofs.lemmas.Option.{slice_get_within, slice_get-map}
 use Rattle.std.proofs.lemmas.Bool.{cases_Bool, cases_eq, and_parts, and_from, and_right, or_left, false≢true, eqb-true, or_parts, or_from}
 use Rattle.sas_task.specs.States.{step, is_applicable}
 use Rattle.sas_task.specs.Runs.{cost_at}
-use Rattle.sas_task.specs.Laws.{step-by, is_some-step}
+use Rattle.sas_task.specs.Laws.{taken-within, is_some-step}
 use Rattle.open_lists.specs.Items.{Item}
 use Rattle.search_log.specs.declared.turns.Pop.{Pop}
 use Rattle.search_log.specs.Phases.{Phase, adjusted_cost, is_below, is_for_preferred, IsPhase}
 use Rattle.search_log.specs.Places.{Node, Past, latest, put_latest, is_expanded, Place, Turn, id_of, node_at, makes_visit, turns, extend, start_past, past_of, place_by}
 use Rattle.guide.specs.Operators.{applicable_operators}
 use Rattle.search_log.specs.Pending.{pending, puts_of, is_put, item_for}
-use Rattle.search_log.specs.Elements.{StandsIn, in-filter, in-left, in-right, in-range}
+use Rattle.search_log.specs.Elements.{in-map, StandsIn, in-filter, in-left, in-right, in-range}
 use Rattle.search_log.specs.PendingLaws.{pending-visited, pending-after_pop, takes}
 use Rattle.search_log.specs.TableLaws.{latest-push, put_latest-at, put_latest-other, put_latest-cases, id_within, id_state}
 use Rattle.search_log.specs.Logs.{Visit}
@@ -49,16 +49,13 @@ pub record Covered (phase : Phase) (past : Past) : Type 0 where
 in-puts : (phase : Phase) (n : Node) (op : ℕ) (next : List ℕ) → is_expanded phase n.visit n.place ≡ true → step phase.parts n.place.state op ≡ Some next
     → is_below phase.setting.bound (n.place.real + cost_at phase.parts op) ≡ true → StandsIn (puts_of phase 0 n) (item_for phase 0 n op)
 in-puts phase n op next expanded steps below =
-    let by = step-by phase.parts n.place.state op next steps in
-    let within = slice_get_within phase.parts.operators op by.operator by.at in
     let ops = range_with_len 0 (length phase.parts.operators) in
-    let first = in-filter (is_applicable phase.parts n.place.state) ops op op (in-range 0 (length phase.parts.operators) op within ∙ ap Some (omega arith)) (sym (is_some-step phase.parts n.place.state op) ∙ ap is_some steps) in
-    let is_all : is_for_preferred phase 0 ≡ false = and_right phase.preferring false refl in
-    let put : is_put phase 0 n op ≡ true = and_from _ _ below (or_left _ _ (ap not is_all)) in
-    let second = in-filter (is_put phase 0 n) (applicable_operators phase.parts n.place.state) first.0 op first.1 put in
-    let third : slice_get (map (item_for phase 0 n) (filter (is_put phase 0 n) (applicable_operators phase.parts n.place.state))) second.0 ≡ Some (item_for phase 0 n op) =
-    slice_get-map (item_for phase 0 n) _ second.0 ∙ ap (option_map (item_for phase 0 n)) second.1 in
-    rw expanded (second.0, third)
+    let at : slice_get ops op ≡ Some op = in-range 0 (length phase.parts.operators) op (taken-within phase.parts n.place.state op next steps) ∙ ap Some (omega arith) in
+    let applies : is_applicable phase.parts n.place.state op ≡ true = sym (is_some-step phase.parts n.place.state op) ∙ ap is_some steps in
+    let first = in-filter (is_applicable phase.parts n.place.state) ops op op at applies in
+    let for_all : is_for_preferred phase 0 ≡ false = and_right phase.preferring false refl in
+    let put : is_put phase 0 n op ≡ true = and_from _ _ below (or_left _ _ (ap not for_all)) in
+    rw expanded (in-map (item_for phase 0 n) (filter (is_put phase 0 n) (applicable_operators phase.parts n.place.state)) op (in-filter (is_put phase 0 n) (applicable_operators phase.parts n.place.state) first.0 op first.1 put))
 
 -- what was found is still found after a visit that goes on from it with less g
 found_later : (phase : Phase) (table : List Node) (n q : Node) (op : ℕ) (next : List ℕ) → Found phase table q op next → n.visit.id ≤ length table

@@ -1,9 +1,9 @@
 -- Elements of lists, by place.
 use Rattle.std.proofs.Common.{◌≡◌, ◌≢◌, ℕ, zero, suc, ◌+◌, ◌<◌, ◌≤◌, Bool, true, false, not, cond, List, [], ◌∷◌, ◌++◌, map, length, slice_get, Some, refl, ap, sym, ◌∙◌, subst, arith, inl, inr, ◌⊎◌, Option, None}
-use Rattle.std.specs.Prelude.{slice_set, ◌≢◌, is_some}
+use Rattle.std.specs.Prelude.{slice_set, ◌≢◌, is_some, option_map}
 use Rattle.std.specs.List.{filter, list_any, position_or_len, range_with_len, flat_map, list_all}
 use Rattle.std.proofs.lemmas.Bool.{cases_Bool, cases_eq, or_parts, and_parts, and_from}
-use Rattle.std.proofs.lemmas.Option.{slice_get_within}
+use Rattle.std.proofs.lemmas.Option.{slice_get-map, slice_get_within}
 use Rattle.std.proofs.lemmas.List.Folds.{list_all-append}
 
 -- where an element stands
@@ -134,6 +134,9 @@ in-range a zero i h = absurd (omega arith)
 in-range a (suc len) zero h = ap Some (omega arith)
 in-range a (suc len) (suc i) h = in-range (a + 1) len i (omega arith) ∙ ap Some (omega arith)
 
+pub in-map : {X Y : Type 0} (f : X → Y) (xs : List X) (x : X) → StandsIn xs x → StandsIn (map f xs) (f x)
+in-map f xs x at = (at.0, slice_get-map f xs at.0 ∙ ap (option_map f) at.1)
+
 pub from-map : {X Y : Type 0} (f : X → Y) (xs : List X) (i : ℕ) (y : Y) → slice_get (map f xs) i ≡ Some y → (x : X) × (slice_get xs i ≡ Some x) × (f x ≡ y)
 from-map f [] i y e = cc
 from-map f (x ∷ xs) zero y e = let g : f x ≡ y = cc in (x, refl, g)
@@ -145,7 +148,7 @@ none-at b [] i x h e = cc
 none-at b (y ∷ ys) zero x h e = let f : y ≡ x = cc in subst (λ z. b z ≡ false) f (or_parts (b y) (list_any b ys) h).0
 none-at b (y ∷ ys) (suc i) x h e = none-at b ys i x (or_parts (b y) (list_any b ys) h).1 e
 
-from-filter : {X : Type 0} (f : X → Bool) (xs : List X) (i : ℕ) (x : X) → slice_get (filter f xs) i ≡ Some x → (f x ≡ true) × StandsIn xs x
+pub from-filter : {X : Type 0} (f : X → Bool) (xs : List X) (i : ℕ) (x : X) → slice_get (filter f xs) i ≡ Some x → (f x ≡ true) × StandsIn xs x
 from-filter f [] i x e = cc
 from-filter f (y ∷ ys) i x e =
     let rest = λ (j : ℕ) (h : slice_get (filter f ys) j ≡ Some x). from-filter f ys j x h in
@@ -163,7 +166,7 @@ from-append [] ys i x e = inr (i, e)
 from-append (z ∷ zs) ys zero x e = inl (0, e)
 from-append (z ∷ zs) ys (suc i) x e = elim (from-append zs ys i x e) [ inl s ↦ inl (suc s.0, s.1) | inr s ↦ inr s ]
 
-from-flat_map : {X Y : Type 0} (f : X → List Y) (xs : List X) (i : ℕ) (y : Y) → slice_get (flat_map f xs) i ≡ Some y → (j : ℕ) × (x : X) × (slice_get xs j ≡ Some x) × StandsIn (f x) y
+pub from-flat_map : {X Y : Type 0} (f : X → List Y) (xs : List X) (i : ℕ) (y : Y) → slice_get (flat_map f xs) i ≡ Some y → (j : ℕ) × (x : X) × (slice_get xs j ≡ Some x) × StandsIn (f x) y
 from-flat_map f [] i y e = cc
 from-flat_map f (x ∷ xs) i y e =
     elim (from-append (f x) (flat_map f xs) i y e) [
@@ -171,7 +174,7 @@ from-flat_map f (x ∷ xs) i y e =
       | inr s ↦ let r = from-flat_map f xs s.0 y s.1 in (suc r.0, r.1, r.2, r.3)
     ]
 
-there_is : {X : Type 0} (o : Option X) → is_some o ≡ true → (x : X) × (o ≡ Some x)
+pub there_is : {X : Type 0} (o : Option X) → is_some o ≡ true → (x : X) × (o ≡ Some x)
 there_is None e = let k : false ≡ true = e in cc
 there_is (Some x) e = (x, refl)
 

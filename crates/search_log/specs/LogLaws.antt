@@ -10,11 +10,10 @@ use Rattle.search_log.specs.declared.turns.Pop.{Pop}
 use Rattle.search_log.specs.Logs.{Visit}
 use Rattle.search_log.specs.Phases.{Phase, IsPhase, is_below}
 use Rattle.search_log.specs.Places.{Node, Past, Turn, makes_visit, turns, extend, start_past, past_of, made_node}
-use Rattle.search_log.specs.Lawful.{IsNext, Follow, Lawful}
+use Rattle.search_log.specs.Lawful.{Logged, IsNext, Follow, Lawful}
 use Rattle.search_log.specs.Sound.{Sound}
 use Rattle.search_log.specs.SoundLaws.{sound_start, sound_made, sound_bare}
 use Rattle.search_log.specs.TurnLaws.{bare, with_visit}
-use Rattle.search_log.specs.Logged.{Logged}
 use Rattle.sas_task.specs.Costs as costs
 
 -- each turn has a visit exactly where its pop makes one

@@ -165,9 +165,6 @@ or-false false = refl
 is_taken-push : (pops : List Pop) (p : Pop) (k : ℕ) (item : Item) → is_taken (pops ++ p ∷ []) k item ≡ (is_taken pops k item || takes k p item)
 is_taken-push pops p k item = list_any-append (λ (q : Pop). takes k q item) pops (p ∷ []) ∙ ap (λ b. is_taken pops k item || b) (or-false (takes k p item))
 
-puts-so-far : Phase → Past → ℕ → List Item
-puts-so-far phase past k = flat_map (puts_of phase k) past.nodes
-
 pub pending-after_pop : (phase : Phase) (nodes : List Node) (pops : List Pop) (p : Pop) (k : ℕ)
     → pending phase (record { nodes = nodes; pops = pops ++ p ∷ [] }) k ≡ filter (λ x. not (takes k p x)) (pending phase (record { nodes = nodes; pops = pops }) k)
 pending-after_pop phase nodes pops p k =

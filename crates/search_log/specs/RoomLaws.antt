@@ -20,7 +20,7 @@ use Rattle.search_log.specs.declared.turns.Pop.{Pop}
 use Rattle.search_log.specs.declared.turns.PopResult.{PopResult}
 use Rattle.search_log.specs.declared.turns.PopResult.TheVariants.{Known, Dead, Goal, Visited, Again, Full}
 use Rattle.search_log.specs.Logs.{Visit}
-use Rattle.search_log.specs.Lawful.{IsNext, Follow, Lawful, is_called_dead, is_full, result_at, result_of}
+use Rattle.search_log.specs.Lawful.{is_reopened, IsNext, Follow, Lawful, is_called_dead, is_full, result_at, result_of}
 use Rattle.search_log.specs.Ends.{last_of, EndsFull, EndsAtPops}
 use Rattle.search_log.specs.TableLaws.{id_first}
 use Rattle.search_log.specs.TurnLaws.{extend_bare, leads_to, result_below}

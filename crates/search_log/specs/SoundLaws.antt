@@ -11,13 +11,13 @@ use Rattle.sas_task.specs.declared.contents.CostKind.TheVariants.{Normal, One, P
 use Rattle.sas_task.specs.Laws.{start-state, settled-settled, end_of-append, step-state, step-settled, cost_at-small, states_of-join}
 use Rattle.sas_task.specs.declared.contents.Parts.{Parts}
 use Rattle.sas_task.specs.States.{step}
-use Rattle.sas_task.specs.Runs.{end_of, cost_at, start_of}
+use Rattle.sas_task.specs.Runs.{states_of, end_of, cost_at, start_of}
 use Rattle.search_log.specs.declared.turns.Pop.{Pop}
 use Rattle.search_log.specs.Logs.{Visit}
 use Rattle.search_log.specs.Phases.{Phase, IsPhase, is_below, adjusted_cost}
-use Rattle.search_log.specs.Places.{Node, latest, put_latest, id_of, start_place, start_past, node_at, Past, states_of, Place, makes_visit, extend, place_by}
+use Rattle.search_log.specs.Places.{Node, latest, put_latest, id_of, start_place, start_past, node_at, Past, Place, makes_visit, extend, place_by}
 use Rattle.search_log.specs.Sound.{OnPath, Numbered, top_cost, HasLatest, Sound}
-use Rattle.search_log.specs.Elements.{found_at, one_at, push_cases, slice_get-push_at, slice_get-push_below}
+use Rattle.search_log.specs.Elements.{all-weaker, found_at, one_at, push_cases, slice_get-push_at, slice_get-push_below}
 use Rattle.search_log.specs.TableLaws.{latest-push, put_latest-at, put_latest-other, put_latest-cases, table_stays, table_grows, id_within, id_state, id_first}
 use Rattle.search_log.specs.Lawful.{IsNext}
 use Rattle.search_log.specs.TurnLaws.{Leads, leads_to, bare, with_visit, extend_bare, extend_made, visit_by_result}

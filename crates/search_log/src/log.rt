@@ -85,7 +85,13 @@ impl Log {
             estimates,
             dead: seen.dead,
         };
-        add_visit(&mut self.visits, &mut self.preferred, visit, &seen.preferred)
+        add_visit(
+            &mut self.visits,
+            &mut self.preferred,
+            visit,
+            &seen.preferred,
+        )?;
+        Ok(())
     }
 
     /// Adds a pop at the end.

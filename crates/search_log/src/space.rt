@@ -64,7 +64,8 @@ impl Space {
             (self.new ≡ self.old ++ record { state = state.now; cost = cost } ∷ []) }
         ensures err { OnErr result (self.new ≡ self.old) }
     {
-        add_member(&mut self.states, &mut self.costs, state, cost)
+        add_member(&mut self.states, &mut self.costs, state, cost)?;
+        Ok(())
     }
 
     /// How many states there are.
@@ -77,7 +78,7 @@ impl Space {
     pub fn is_empty(&self) -> bool
         ensures { IsTrue result ↔ (self.now ≡ []) }
     {
-        self.costs.is_empty()
+        self.len() == 0
     }
 
     /// Copies the state at a place, from 0.

@@ -87,9 +87,13 @@ returns-clause-two c = (
     record { id = refl; g = refl },
     (
       next_by _ _ _ 0 (item_of 2 (entry_of 0 0)) (at one 1 (0 ∷ []) (start ∷ one ∷ [])) refl refl refl refl refl refl refl refl refl refl refl refl refl,
-      next_by _ _ _ 1 (item_of 1 (entry_of 1 0)) (at one 2 (0 ∷ 0 ∷ []) (start ∷ one ∷ one ∷ [])) refl refl refl refl refl refl refl refl refl refl refl tt tt,
-      next_by _ _ _ 1 (item_of 1 (entry_of 1 1)) (at two 2 (0 ∷ 1 ∷ []) (start ∷ one ∷ two ∷ [])) refl refl refl refl refl refl refl refl refl refl refl tt tt,
-      tt,
+      (
+        next_by _ _ _ 1 (item_of 1 (entry_of 1 0)) (at one 2 (0 ∷ 0 ∷ []) (start ∷ one ∷ one ∷ [])) refl refl refl refl refl refl refl refl refl refl refl tt tt,
+        (
+          next_by _ _ _ 1 (item_of 1 (entry_of 1 1)) (at two 2 (0 ∷ 1 ∷ []) (start ∷ one ∷ two ∷ [])) refl refl refl refl refl refl refl refl refl refl refl tt tt,
+          tt,
+        ),
+      ),
     ),
     refl,
   ),
@@ -102,11 +106,19 @@ returns-clause-five c = (
     record { id = refl; g = refl },
     (
       next_by _ _ _ 0 (item_of 2 (entry_of 0 0)) (at one 1 (0 ∷ []) (start ∷ one ∷ [])) refl refl refl refl refl refl refl refl refl refl refl refl refl,
-      next_by _ _ _ 1 (item_of 1 (entry_of 1 0)) (at one 2 (0 ∷ 0 ∷ []) (start ∷ one ∷ one ∷ [])) refl refl refl refl refl refl refl refl refl refl refl tt tt,
-      next_by _ _ _ 1 (item_of 1 (entry_of 1 1)) (at two 2 (0 ∷ 1 ∷ []) (start ∷ one ∷ two ∷ [])) refl refl refl refl refl refl refl refl refl refl refl refl refl,
-      next_by _ _ _ 1 (item_of 1 (entry_of 2 0)) (at one 3 (0 ∷ 1 ∷ 0 ∷ []) (start ∷ one ∷ two ∷ one ∷ [])) refl refl refl refl refl refl refl refl refl refl refl tt tt,
-      next_by _ _ _ 1 (item_of 1 (entry_of 2 1)) (at two 3 (0 ∷ 1 ∷ 1 ∷ []) (start ∷ one ∷ two ∷ two ∷ [])) refl refl refl refl refl refl refl refl refl refl refl tt tt,
-      tt,
+      (
+        next_by _ _ _ 1 (item_of 1 (entry_of 1 0)) (at one 2 (0 ∷ 0 ∷ []) (start ∷ one ∷ one ∷ [])) refl refl refl refl refl refl refl refl refl refl refl tt tt,
+        (
+          next_by _ _ _ 1 (item_of 1 (entry_of 1 1)) (at two 2 (0 ∷ 1 ∷ []) (start ∷ one ∷ two ∷ [])) refl refl refl refl refl refl refl refl refl refl refl refl refl,
+          (
+            next_by _ _ _ 1 (item_of 1 (entry_of 2 0)) (at one 3 (0 ∷ 1 ∷ 0 ∷ []) (start ∷ one ∷ two ∷ one ∷ [])) refl refl refl refl refl refl refl refl refl refl refl tt tt,
+            (
+              next_by _ _ _ 1 (item_of 1 (entry_of 2 1)) (at two 3 (0 ∷ 1 ∷ 1 ∷ []) (start ∷ one ∷ two ∷ two ∷ [])) refl refl refl refl refl refl refl refl refl refl refl tt tt,
+              tt,
+            ),
+          ),
+        ),
+      ),
     ),
     refl,
   ),
@@ -125,12 +137,22 @@ returns-clause-six c = (
     record { id = refl; g = refl },
     (
       next_by _ _ _ 0 (item_of 2 (entry_of 0 0)) (at one 1 (0 ∷ []) (start ∷ one ∷ [])) refl refl refl refl refl refl refl refl refl refl refl refl refl,
-      next_by _ _ _ 1 (item_of 1 (entry_of 1 0)) (at one 2 (0 ∷ 0 ∷ []) (start ∷ one ∷ one ∷ [])) refl refl refl refl refl refl refl refl refl refl refl tt tt,
-      next_by _ _ _ 1 (item_of 1 (entry_of 1 1)) (at two 2 (0 ∷ 1 ∷ []) (start ∷ one ∷ two ∷ [])) refl refl refl refl refl refl refl refl refl refl refl refl refl,
-      next_by _ _ _ 1 (item_of 1 (entry_of 2 0)) (at one 3 (0 ∷ 1 ∷ 0 ∷ []) (start ∷ one ∷ two ∷ one ∷ [])) refl refl refl refl refl refl refl refl refl refl refl tt tt,
-      next_by _ _ _ 1 (item_of 1 (entry_of 2 1)) (at two 3 (0 ∷ 1 ∷ 1 ∷ []) (start ∷ one ∷ two ∷ two ∷ [])) refl refl refl refl refl refl refl refl refl refl refl tt tt,
-      next_by _ _ _ 0 (item_of 2 (entry_of 0 1)) (at two 1 (1 ∷ []) (start ∷ two ∷ [])) refl refl refl refl refl refl refl refl refl refl refl tt tt,
-      tt,
+      (
+        next_by _ _ _ 1 (item_of 1 (entry_of 1 0)) (at one 2 (0 ∷ 0 ∷ []) (start ∷ one ∷ one ∷ [])) refl refl refl refl refl refl refl refl refl refl refl tt tt,
+        (
+          next_by _ _ _ 1 (item_of 1 (entry_of 1 1)) (at two 2 (0 ∷ 1 ∷ []) (start ∷ one ∷ two ∷ [])) refl refl refl refl refl refl refl refl refl refl refl refl refl,
+          (
+            next_by _ _ _ 1 (item_of 1 (entry_of 2 0)) (at one 3 (0 ∷ 1 ∷ 0 ∷ []) (start ∷ one ∷ two ∷ one ∷ [])) refl refl refl refl refl refl refl refl refl refl refl tt tt,
+            (
+              next_by _ _ _ 1 (item_of 1 (entry_of 2 1)) (at two 3 (0 ∷ 1 ∷ 1 ∷ []) (start ∷ one ∷ two ∷ two ∷ [])) refl refl refl refl refl refl refl refl refl refl refl tt tt,
+              (
+                next_by _ _ _ 0 (item_of 2 (entry_of 0 1)) (at two 1 (1 ∷ []) (start ∷ two ∷ [])) refl refl refl refl refl refl refl refl refl refl refl tt tt,
+                tt,
+              ),
+            ),
+          ),
+        ),
+      ),
     ),
     refl,
   ),
