@@ -1,5 +1,5 @@
 -- Laws of lists of operators.
-use Rattle.std.proofs.Common.{◌≡◌, ◌∙◌, sym, ap, refl, ℕ, List, [], ◌∷◌, Bool, true, false, cond, nat_eq, ◌||◌, ◌&&◌, filter, arith, inl, inr}
+use Rattle.std.proofs.Common.{◌≡◌, ◌∙◌, sym, ap, refl, ℕ, List, [], ◌∷◌, Bool, true, false, cond, nat_eq, ◌&&◌, filter, arith, inl, inr}
 use Rattle.std.proofs.lemmas.Bool.{cases_Bool, or_right, eqb-true}
 use Rattle.guide.specs.Operators.{is_among}
 

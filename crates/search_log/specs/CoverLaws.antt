@@ -1,8 +1,8 @@
 -- Each operator of an expanded latest visit is still pending, or leads to a visited state.
-use Rattle.std.proofs.Common.{◌≡◌, ℕ, ◌+◌, ◌<◌, ◌≤◌, true, false, not, List, [], ◌∷◌, ◌++◌, map, length, slice_get, Some, refl, ap, sym, ◌∙◌, subst, arith, inl, inr, ◌⊎◌, Option, None}
-use Rattle.std.specs.Prelude.{◌==◌, nat_lt, is_some, option_map}
+use Rattle.std.proofs.Common.{◌≡◌, ℕ, ◌+◌, ◌<◌, ◌≤◌, true, false, not, List, [], ◌∷◌, ◌++◌, length, slice_get, Some, refl, ap, sym, ◌∙◌, subst, arith, inl, inr, ◌⊎◌, Option, None}
+use Rattle.std.specs.Prelude.{◌==◌, nat_lt, is_some}
 use Rattle.std.specs.List.{filter, list_all, range_with_len, fold, list_any}
-use Rattle.std.proofs.lemmas.Option.{slice_get_within, slice_get-map}
+use Rattle.std.proofs.lemmas.Option.{slice_get_within}
 use Rattle.std.proofs.lemmas.Bool.{cases_Bool, cases_eq, and_parts, and_from, and_right, or_left, false≢true, eqb-true, or_parts, or_from}
 use Rattle.sas_task.specs.States.{step, is_applicable}
 use Rattle.sas_task.specs.Runs.{cost_at}
@@ -22,7 +22,6 @@ use Rattle.search_log.specs.Sound.{Sound}
 use Rattle.search_log.specs.SoundLaws.{first_node}
 use Rattle.search_log.specs.TurnLaws.{Leads, leads_to, bare, with_visit, extend_bare, extend_made, visit_by_result, known_by_result}
 use Rattle.search_log.specs.LogLaws.{turns-cons_made, turns-cons_bare, Matched, matched_turns, by_made, sound_turn, start_sound}
-use Rattle.sas_task.specs.Costs as costs
 
 -- an entry for an operator of a visit waits in list 0
 pub record IsPending (phase : Phase) (past : Past) (n : Node) (op : ℕ) : Type 0 where

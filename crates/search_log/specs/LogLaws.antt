@@ -14,7 +14,6 @@ use Rattle.search_log.specs.Lawful.{Logged, IsNext, Follow, Lawful}
 use Rattle.search_log.specs.Sound.{Sound}
 use Rattle.search_log.specs.SoundLaws.{sound_start, sound_made, sound_bare}
 use Rattle.search_log.specs.TurnLaws.{bare, with_visit}
-use Rattle.sas_task.specs.Costs as costs
 
 -- each turn has a visit exactly where its pop makes one
 abbrev pub made_by : List Pop → ℕ

@@ -1,5 +1,5 @@
 -- Costs of visits and counters fit 64 bits.
-use Rattle.std.proofs.Common.{ℕ, ◌+◌, ◌*◌, ◌≤◌, Bool, true, false, cond, List, [], ◌∷◌, length, Some, None, arith, pos, ◌-ℤ◌, ◌≡◌, ◌^◌, ◌<◌, slice_get, refl}
+use Rattle.std.proofs.Common.{ℕ, ◌+◌, ◌*◌, ◌≤◌, Bool, true, false, List, [], ◌∷◌, length, Some, None, arith, pos, ◌-ℤ◌, ◌≡◌, ◌^◌, ◌<◌, slice_get, refl}
 use Rattle.std.specs.Prelude.{if◌then◌else◌, ◌≤ℤ◌, ◌==◌, sum_by, nat_eq, None}
 use Rattle.std.specs.List.{count_by}
 use Rattle.std.proofs.Math.Nat.{mul-le-mul}

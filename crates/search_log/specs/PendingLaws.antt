@@ -1,18 +1,18 @@
 -- What the lists hold after a pop, and after a visit.
 use Rattle.std.proofs.Common.{◌≡◌, ◌≢◌, ℕ, zero, suc, ◌+◌, ◌<◌, Bool, true, false, not, cond, List, [], ◌∷◌, ◌++◌, map, length, slice_get, Some, refl, ap, sym, ◌∙◌, subst, arith, inl, inr}
-use Rattle.std.specs.Prelude.{◌&&◌, ◌||◌, ◌==◌, nat_lt, is_some}
+use Rattle.std.specs.Prelude.{◌&&◌, ◌||◌, ◌==◌, nat_lt}
 use Rattle.std.specs.List.{filter, list_any, list_all, flat_map, remove, range_with_len}
 use Rattle.std.proofs.lemmas.List.{append-nil}
 use Rattle.std.proofs.lemmas.List.Elements.{filter-append}
 use Rattle.std.proofs.lemmas.List.Concat.{flat_map-append}
 use Rattle.std.proofs.lemmas.List.Folds.{list_any-append}
 use Rattle.std.proofs.lemmas.Bool.{cases_Bool, and_parts, or_parts, or_from, and_from, eqb-true, eq-eqb, ne_eqb, ltb-true, lt-ltb, and_left, and_right, false≢true}
-use Rattle.sas_task.specs.States.{step, is_applicable}
+use Rattle.sas_task.specs.States.{is_applicable}
 use Rattle.open_lists.specs.Items.{Item}
 use Rattle.open_lists.specs.Runs.{entry_of}
 use Rattle.search_log.specs.declared.turns.Pop.{Pop}
 use Rattle.search_log.specs.Phases.{Phase}
-use Rattle.search_log.specs.Places.{Node, Past, is_expanded}
+use Rattle.search_log.specs.Places.{Node, is_expanded}
 use Rattle.search_log.specs.Pending.{puts_of, is_put, item_for, is_taken, pending}
 use Rattle.search_log.specs.Sound.{Numbered}
 use Rattle.search_log.specs.Elements.{filter-keep, filter-skip, filter-same, filter-none, none-at, all-weaker, all-join}

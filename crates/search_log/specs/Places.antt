@@ -3,7 +3,6 @@ use Rattle.std.specs.Prelude.{ℕ, ◌+◌, Bool, true, false, not, ◌&&◌, �
 use Rattle.std.specs.List.{fold, list_any, list_all, range_with_len, position_or_len}
 use Rattle.std.specs.Option.{option_to_list}
 use Rattle.std.specs.Str.{bytes_eq}
-use Rattle.sas_task.specs.declared.contents.Parts.{Parts}
 use Rattle.sas_task.specs.States.{step}
 use Rattle.sas_task.specs.Runs.{start_of, is_goal, cost_at}
 use Rattle.search_log.specs.declared.turns.Pop.{Pop}

@@ -1,5 +1,5 @@
 -- An example: two goals that destroy each other. What one list does that is led by the costs of relaxed plans.
-use Rattle.std.specs.Prelude.{ℕ, false, List, [], ◌∷◌, Option, Some, None}
+use Rattle.std.specs.Prelude.{ℕ, false, List, [], ◌∷◌, Option, None}
 use Rattle.sas_task.specs.declared.contents.CostKind.TheVariants.{Normal}
 use Rattle.sas_task.specs.declared.contents.Variable.{Variable}
 use Rattle.sas_task.specs.declared.contents.Effect.{Effect}

@@ -1,8 +1,8 @@
 -- How many visits and pops a lawful log can have.
-use Rattle.std.proofs.Common.{◌≡◌, ◌≢◌, ℕ, ◌+◌, ◌<◌, ◌≤◌, false, List, [], ◌∷◌, ◌++◌, map, length, slice_get, Some, ap, sym, ◌∙◌, subst, arith, inl, inr, ◌-◌, Bool, true, not, Option, None, refl}
+use Rattle.std.proofs.Common.{◌≡◌, ◌≢◌, ℕ, ◌+◌, ◌<◌, ◌≤◌, false, List, [], ◌∷◌, ◌++◌, map, length, slice_get, Some, ap, sym, ◌∙◌, subst, arith, inl, inr, ◌-◌, Bool, true, Option, None, refl}
 use Rattle.std.proofs.Math.Nat.{mul-le-mul_left, mul-le-mul_right, mul_assoc}
 use Rattle.std.proofs.lemmas.List.{length-append, length-map}
-use Rattle.std.specs.Prelude.{◌&&◌, nat_lt, nat_le, if◌then◌else◌}
+use Rattle.std.specs.Prelude.{nat_le, if◌then◌else◌}
 use Rattle.std.specs.List.{fold}
 use Rattle.std.proofs.lemmas.Bool.{leb-true}
 use Rattle.std.proofs.lemmas.Option.{slice_get_within}
@@ -171,7 +171,8 @@ lawful_full phase (v ∷ vs) pops is l ends = go (turns pops vs) l.1 (matched_tu
     go [] f m last = let k : ◌≡◌ {A = Option Pop} None (Some ends.pop) = last in cc
     go (t ∷ rest) f m last =
         let place : length (map (λ (u : Turn). u.pop) (t ∷ rest)) - 1 ≡ length rest = omega (arith, length-map (t ∷ rest) (λ (u : Turn). u.pop)) in
-        let at = from-map (λ (u : Turn). u.pop) (t ∷ rest) (length rest) ends.pop (ap (slice_get (map (λ (u : Turn). u.pop) (t ∷ rest))) (sym place) ∙ last) in
+        let there : slice_get (map (λ (u : Turn). u.pop) (t ∷ rest)) (length rest) ≡ Some ends.pop = ap (slice_get (map (λ (u : Turn). u.pop) (t ∷ rest))) (sym place) ∙ last in
+        let at = from-map (λ (u : Turn). u.pop) (t ∷ rest) (length rest) ends.pop there in
         full_last phase (start_past phase v) rest t is (start_sound phase v is l.0.id) f m at.0 at.1 (ap (λ (p : Pop). is_full p.result) at.2 ∙ ends.full)
 
 -- what that says of a whole log, also of one without a visit

@@ -20,5 +20,4 @@ pub fn rivals_have_no_plan()
         EndsFull (past_of (greedy 9 2 None) two_visits three_pops) }
     ensures phase { IsPhase (greedy 6 9 None) }
     ensures asked { times_asked (greedy 6 9 (Some (record { start = 0; limit = 9 }))) six_pops ≡ 1 }
-{
-}
+{}

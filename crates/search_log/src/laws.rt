@@ -27,8 +27,7 @@ pub fn goal_visits_have_plans()
         IsPlan phase.parts n.place.path ×
         (n.place.real ≡ cost_of phase.parts n.place.path) ×
         (is_below phase.setting.bound n.place.real ≡ true) }
-{
-}
+{}
 
 /// Where a lawful log ends with nothing left, and calls only dead states dead, its space is
 /// exhausted; exactly so where the phase is exact.
@@ -38,25 +37,22 @@ pub fn logs_with_nothing_left_are_exhausted()
         EndsExhausted phase (past_of phase visits pops) →
         TellsDead phase (past_of phase visits pops) →
         IsExhausted phase.parts (space_of (past_of phase visits pops))
-            phase.setting.bound (is_exact phase) }
-{
-}
+        phase.setting.bound (is_exact phase) }
+{}
 
 /// Where a space is exhausted without a bound, no list of operators is a plan.
 pub fn no_plan_leaves_an_exhausted_space()
     ensures { (parts : Parts) (space : List Member) (exact : Bool) →
         IsWellFormed parts → IsExhausted parts space None exact →
         (ops : List ℕ) → ¬ IsPlan parts ops }
-{
-}
+{}
 
 /// Where a space is exhausted exactly under a bound, every plan costs at least the bound.
 pub fn no_cheaper_plan_leaves_an_exact_space()
     ensures { (parts : Parts) (space : List Member) (bound : ℕ) →
         IsWellFormed parts → IsExhausted parts space (Some bound) true →
         (ops : List ℕ) → IsPlan parts ops → bound ≤ cost_of parts ops }
-{
-}
+{}
 
 /// A lawful log has visited at most as many states as there are assignments. Where states aren't
 /// visited again, no state has two visits, and there are at most as many pops as there is room.
@@ -73,8 +69,7 @@ pub fn logs_keep_to_the_room()
     ensures pops { (phase : Phase) (visits : List Visit) (pops : List ThePop) →
         IsPhase phase → Lawful phase visits pops → phase.setting.reopen ≡ false →
         length pops ≤ room phase }
-{
-}
+{}
 
 /// A lawful log that ends at a limit of states or pops had room for more: it visited just so many
 /// states, of more assignments; and where states aren't visited again, the room is above the pops.
@@ -87,8 +82,7 @@ pub fn limits_are_below_the_room()
         IsPhase phase → Lawful phase visits pops →
         EndsAtPops phase (past_of phase visits pops) → phase.setting.reopen ≡ false →
         phase.setting.most_pops < room phase }
-{
-}
+{}
 
 /// Time ends a phase exactly where an answer of the clock is late, and that answer is the last.
 /// The clock is asked at most once, and once more for each 256 pops.
@@ -101,5 +95,4 @@ pub fn late_answers_end_logs()
     ensures never { (phase : Phase) (pops : List ThePop) (moment : Option ℕ) (answers : List ℕ) →
         AreAnswers phase pops moment answers → phase.setting.stop ≡ None →
         (answers ≡ []) × (moment ≡ None) }
-{
-}
+{}

@@ -29,8 +29,8 @@ impl Model for Log {
     ghost Value = { Content };
 
     ghost view = { λ l. record {
-        visits = beside visit_of l.visits.items l.preferred;
-        pops = map pop_of l.pops.items
+      visits = beside visit_of l.visits.items l.preferred;
+      pops = map pop_of l.pops.items;
     } };
 
     ghost invariant = { λ l. (length l.visits.items ≡ length l.preferred) ×
@@ -133,13 +133,13 @@ impl Log {
     pub fn visit(&self, number: usize) -> VisitAt<'_>
         requires { number < length self.now.visits }
         ensures { slice_get self.now.visits number ≡ Some (record {
-            id = result.id;
-            g = result.g;
-            seen = record {
-                dead = result.dead;
-                estimates = result.estimates;
-                preferred = result.preferred.now
-            }
+          id = result.id;
+          g = result.g;
+          seen = record {
+            dead = result.dead;
+            estimates = result.estimates;
+            preferred = result.preferred.now;
+          };
         }) }
     {
         let visit = self.visits[number];
