@@ -1,0 +1,7 @@
+pub mod Accepting
+pub mod BuiltIn
+pub mod Commas
+pub mod Cutting
+pub mod ReadingBack
+pub mod Readings
+pub mod Turns

@@ -1,0 +1,6 @@
+pub mod Accepted
+pub mod AliasConfigs
+pub mod Grammar
+pub mod Rules
+pub mod Tokens
+pub mod Written
