@@ -1,7 +1,6 @@
 pub mod Logs
 pub mod Members
 pub mod Columns
-pub mod ColumnLaws
 pub mod Phases
 pub mod Places
 pub mod Pending

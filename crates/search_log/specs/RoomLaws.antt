@@ -167,13 +167,17 @@ pub lawful_full : (phase : Phase) (visits : List Visit) (pops : List Pop) → Is
 lawful_full phase [] pops is l ends = let k : ◌≡◌ {A = Option Pop} None (Some ends.pop) = ends.last in cc
 lawful_full phase (v ∷ vs) pops is l ends = go (turns pops vs) l.1 (matched_turns pops vs l.2) (subst (λ (ps : List Pop). last_of ps ≡ Some ends.pop) (pops_after phase (start_past phase v) (turns pops vs)) ends.last)
   where
+    from_last : (t : Turn) (rest : List Turn) → Follow phase (start_past phase v) (t ∷ rest) → Matched (t ∷ rest) → (u : Turn) → slice_get (t ∷ rest) (length rest) ≡ Some u → u.pop ≡ ends.pop →
+        IsFull phase (fold (extend phase) (start_past phase v) (t ∷ rest))
+    from_last t rest f m u at same = full_last phase (start_past phase v) rest t is (start_sound phase v is l.0.id) f m u at (ap (λ (p : Pop). is_full p.result) same ∙ ends.full)
+
     go : (ts : List Turn) → Follow phase (start_past phase v) ts → Matched ts → last_of (map (λ (t : Turn). t.pop) ts) ≡ Some ends.pop → IsFull phase (fold (extend phase) (start_past phase v) ts)
     go [] f m last = let k : ◌≡◌ {A = Option Pop} None (Some ends.pop) = last in cc
     go (t ∷ rest) f m last =
         let place : length (map (λ (u : Turn). u.pop) (t ∷ rest)) - 1 ≡ length rest = omega (arith, length-map (t ∷ rest) (λ (u : Turn). u.pop)) in
         let there : slice_get (map (λ (u : Turn). u.pop) (t ∷ rest)) (length rest) ≡ Some ends.pop = ap (slice_get (map (λ (u : Turn). u.pop) (t ∷ rest))) (sym place) ∙ last in
         let at = from-map (λ (u : Turn). u.pop) (t ∷ rest) (length rest) ends.pop there in
-        full_last phase (start_past phase v) rest t is (start_sound phase v is l.0.id) f m at.0 at.1 (ap (λ (p : Pop). is_full p.result) at.2 ∙ ends.full)
+        from_last t rest f m at.0 at.1 at.2
 
 -- what that says of a whole log, also of one without a visit
 pub states_in_room : (phase : Phase) (visits : List Visit) (pops : List Pop) → IsPhase phase → Lawful phase visits pops → length (latest (past_of phase visits pops).nodes) ≤ assignments phase.parts.variables

@@ -1,5 +1,6 @@
 // The columns of a log.
 use crate::turns::PopResult;
+use std::mem::size_of;
 
 /// A visit without its preferred operators.
 #[derive(Clone, Copy, Debug)]
@@ -18,3 +19,7 @@ pub struct PopRow {
     pub(crate) list: u8,
     pub(crate) result: PopResult,
 }
+
+const _: () = prove!(size_of::<VisitRow>() == 32);
+
+const _: () = prove!(size_of::<PopRow>() == 12);

@@ -1,5 +1,5 @@
 // What lawful logs and exhausted spaces show.
-ghost use Rattle.std.specs.Prelude.{◌≡◌, ℕ, ◌+◌, ◌/◌, ◌<◌, ◌≤◌, ◌∷◌, ◌++◌, [], Bool, true, false};
+ghost use Rattle.std.specs.Prelude.{◌≡◌, ℕ, ◌+◌, ◌/◌, ◌<◌, ◌≤◌, [], Bool, true, false};
 ghost use Rattle.std.specs.Prelude.{List, length, slice_get, Option, Some, None, is_some};
 ghost use Rattle.std.specs.List.{list_any};
 ghost use Rattle.sas_task.specs.declared.contents.Parts.{Parts};

@@ -1,5 +1,5 @@
 use Rattle.search_log.specs.Columns.{visit_of}
-use Rattle.search_log.specs.ColumnLaws.{beside-push}
+use Rattle.search_log.proofs.ColumnLaws.{beside-push}
 use Rattle.search_log.proofs.log.Log.push_visit.Goals as goal
 
 pub returns-clause-visits : goal.returns-clause-visits

@@ -2,7 +2,7 @@ use Rattle.std.proofs.Common.{length, slice_get, get_or, List, ℕ, [], Some, ap
 use Rattle.search_log.specs.declared.columns.VisitRow.{VisitRow}
 use Rattle.search_log.specs.Logs.{Content}
 use Rattle.search_log.specs.Columns.{visit_of}
-use Rattle.search_log.specs.ColumnLaws.{length-beside, beside-found}
+use Rattle.search_log.proofs.ColumnLaws.{length-beside, beside-found}
 use Rattle.search_log.proofs.log.Log.visit.Goals as goal
 
 pub index-visit-requires : goal.index-visit-requires

@@ -1,7 +1,7 @@
 use Rattle.std.proofs.Common.{length, ap, arith}
 use Rattle.search_log.specs.Logs.{Content}
 use Rattle.search_log.specs.Columns.{visit_of}
-use Rattle.search_log.specs.ColumnLaws.{length-beside}
+use Rattle.search_log.proofs.ColumnLaws.{length-beside}
 use Rattle.search_log.proofs.log.Log.visits.Goals as goal
 
 pub returns-clause-count : goal.returns-clause-count

@@ -1,6 +1,6 @@
 use Rattle.std.proofs.Common.{length, ap, arith}
 use Rattle.search_log.specs.Columns.{member_of}
-use Rattle.search_log.specs.ColumnLaws.{length-beside}
+use Rattle.search_log.proofs.ColumnLaws.{length-beside}
 use Rattle.search_log.proofs.space.Space.len.Goals as goal
 
 pub returns : goal.returns

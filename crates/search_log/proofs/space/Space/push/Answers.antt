@@ -1,6 +1,6 @@
 use Rattle.std.proofs.Common.{length, [], ◌∷◌, ap, arith, length-append}
 use Rattle.search_log.specs.Columns.{member_of}
-use Rattle.search_log.specs.ColumnLaws.{length-beside, beside-push}
+use Rattle.search_log.proofs.ColumnLaws.{length-beside, beside-push}
 use Rattle.search_log.proofs.space.Space.push.Goals as goal
 
 pub invariant_of-self-2 : goal.invariant_of-self-2

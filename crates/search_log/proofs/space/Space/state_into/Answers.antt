@@ -2,7 +2,7 @@ use Rattle.std.proofs.Common.{◌≡◌, ◌<◌, length, slice_get, [], ap, sym
 use Rattle.std.specs.Prelude.{IsSomeAnd, Option}
 use Rattle.search_log.specs.Members.{Member}
 use Rattle.search_log.specs.Columns.{member_of}
-use Rattle.search_log.specs.ColumnLaws.{length-beside, beside-found}
+use Rattle.search_log.proofs.ColumnLaws.{length-beside, beside-found}
 use Rattle.search_log.proofs.space.Space.state_into.Goals as goal
 
 pub row-requires : goal.row-requires
