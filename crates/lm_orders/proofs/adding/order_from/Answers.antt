@@ -1,12 +1,18 @@
-use Rattle.std.proofs.Common.{◌≡◌, ◌≤◌, ◌∙◌, sym, ap, refl, subst, ℕ, true, false, not, is_some, length, arith, List, Some, Option}
+use Rattle.std.proofs.Common.{◌≡◌, ◌≤◌, ◌∙◌, sym, ap, refl, subst, ℕ, true, false, not, is_some, length, arith, List, Some, None, Option}
 use Rattle.sas_task.specs.declared.contents.Parts.{Parts}
 use Rattle.lm_graph.specs.declared.nodes.Node.{Node}
 use Rattle.lm_graph.specs.Graphs.{Content}
 use Rattle.lm_orders.specs.Interference.{fact_of}
 use Rattle.lm_orders.specs.Reasonable.{AddsBefore, AddsSome}
 use Rattle.lm_orders.specs.Sources.{IsUnderWay}
-use Rattle.lm_orders.proofs.Turning.{source_begins, some_fact, some_pairs, on_error, row_ends}
+use Rattle.lm_orders.proofs.Turning.{source_begins, some_fact, no_fact, some_pairs, on_error, row_ends, row_without}
 use Rattle.lm_orders.proofs.adding.order_from.Goals as goal
+
+pub returns-then-is_none-clause-ok : goal.returns-then-is_none-clause-ok
+returns-then-is_none-clause-ok c parts old under =
+    let none = no_fact c.fact_at.result (c.is_none.ensures ∙ ap not c.if-is_none.true) in
+    let is : fact_of c.args.graph.now.nodes c.args.node ≡ None = ap (λ (nodes : List Node). fact_of nodes c.args.node) (sym c.nodes.ensures.nodes) ∙ (sym c.fact_at.ensures ∙ none) in
+    record { fit = under.fit; adds = row_without parts old c.args.graph.now c.args.node is under.adds }
 
 pub loop-after-init : goal.loop-after-init
 loop-after-init c =
