@@ -1,5 +1,5 @@
 -- What goes with a node of one fact.
-use Rattle.std.proofs.Common.{◌≡◌, ◌∙◌, sym, ap, refl, ℕ, zero, suc, ◌+◌, ◌<◌, ◌⊎◌, inl, inr, List, [], ◌∷◌, ◌++◌, length, map, Bool, true, false, ◌||◌, ◌&&◌, nat_eq, if◌then◌else◌, Option, Some, None, slice_get, subst, length-append, arith}
+use Rattle.std.proofs.Common.{◌≡◌, ◌∙◌, sym, ap, refl, ℕ, suc, ◌+◌, ◌<◌, ◌⊎◌, inl, inr, List, [], ◌∷◌, ◌++◌, length, Bool, true, false, ◌||◌, nat_eq, if◌then◌else◌, Option, Some, None, slice_get, subst, length-append, arith}
 use Rattle.std.specs.List.{list_any, list_all, filter_map}
 use Rattle.std.proofs.lemmas.Bool.{or_cases, or_left, or_right, eqb-true, eq-eqb, cases_eq}
 use Rattle.std.proofs.lemmas.List.Folds.{list_any-append}
@@ -14,7 +14,7 @@ use Rattle.lm_graph.specs.declared.orders.Edge.{Edge}
 use Rattle.lm_graph.specs.declared.orders.Order.{Order}
 use Rattle.lm_graph.specs.declared.orders.Order.TheVariants.{Reasonable, Natural, GreedyNecessary}
 use Rattle.lm_graph.specs.FactTables.{numbers_at}
-use Rattle.lm_graph.specs.Graphs.{Content, row_of, kind_of}
+use Rattle.lm_graph.specs.Graphs.{Content, kind_of}
 use Rattle.lm_graph.specs.Orders.{is_strong}
 use Rattle.lm_graph.specs.Rows.{kind_in}
 use Rattle.lm_orders.specs.declared.givers.Givers.{Givers}
@@ -57,8 +57,8 @@ module _ (parts : Parts) (givers : Givers) (are : AreGivers parts givers) (fact 
   comes_to comes =
       common_from givers.always (numbers_at givers.table fact) other comes.some.0 (at_giver comes.some.0 comes.some.1 comes.some.2)
       (all_from (λ m. has_fact (row_at givers.always m) other) (numbers_at givers.table fact) (λ op h.
-        let g = giver_at op h in
-        always_at op g.0 g.1 ∙ comes.every op g.0 (record { at = g.1; gives = g.2 })))
+      let g = giver_at op h in
+      always_at op g.0 g.1 ∙ comes.every op g.0 (record { at = g.1; gives = g.2 })))
 
 -- what is to hold directly before
 
@@ -151,6 +151,7 @@ pub rows_next : (givers : Givers) (graph : Content) (n : ℕ) (old new : List (L
     ((parts : Parts) → AreGivers parts givers → HasCompanies parts graph.nodes (kind_of graph) n old) →
     ((parts : Parts) → AreGivers parts givers → (fact : Fact) → fact_of graph.nodes n ≡ Some fact → IsCompany parts graph.nodes (kind_of graph) n fact row) →
     (n + 1 ≡ length new) × ((parts : Parts) → AreGivers parts givers → HasCompanies parts graph.nodes (kind_of graph) (n + 1) new)
-rows_next givers graph n old new row long is so_far here =
-    (omega (arith, long, ap length is, length-append old (row ∷ [])),
-    (λ parts are. subst (HasCompanies parts graph.nodes (kind_of graph) (n + 1)) (sym is) (companies_more parts graph.nodes (kind_of graph) n old row long (so_far parts are) (here parts are))))
+rows_next givers graph n old new row long is so_far here = (
+  omega (arith, long, ap length is, length-append old (row ∷ [])),
+  (λ parts are. subst (HasCompanies parts graph.nodes (kind_of graph) (n + 1)) (sym is) (companies_more parts graph.nodes (kind_of graph) n old row long (so_far parts are) (here parts are))),
+)

@@ -1,12 +1,11 @@
 -- The tests of a reasonable order.
-use Rattle.std.proofs.Common.{◌≡◌, ◌≢◌, ◌∙◌, sym, ap, refl, subst, ℕ, ◌<◌, inl, inr, List, length, Bool, true, false, not, ◌||◌, ◌&&◌, ◌↔◌, nat_eq, Option, Some, None, slice_get}
+use Rattle.std.proofs.Common.{◌≡◌, ◌≢◌, ◌∙◌, sym, ap, refl, subst, ℕ, ◌<◌, List, length, true, false, ◌↔◌, Option, Some, None, slice_get}
 use Rattle.std.specs.List.{list_any}
-use Rattle.std.specs.Option.{option_map_or, is_none}
+use Rattle.std.specs.Option.{is_none}
 use Rattle.std.proofs.lemmas.Bool.{and_parts, and_from, not-true, both_ways, eqb-false, ne_eqb, not_from_false, false_from_ne_true}
 use Rattle.std.proofs.lemmas.Map.Keys.{any_passes_from_place}
-use Rattle.std.proofs.lemmas.Option.{same_Some, none-some}
+use Rattle.std.proofs.lemmas.Option.{same_Some}
 use Rattle.lama_num.specs.Rows.{row_at}
-use Rattle.sas_task.specs.Facts.{are_mutex}
 use Rattle.sas_task.specs.declared.contents.Fact.{Fact}
 use Rattle.sas_task.specs.declared.contents.Parts.{Parts}
 use Rattle.lm_graph.specs.declared.orders.Edge.{Edge}
@@ -136,7 +135,8 @@ pub source_fits : (parts : Parts) (graph : Content) (tables : Tables) (source : 
     ((other : ℕ) → (is_seen source.reached other ≡ true) ↔ Path (kinds_from tables.successors) Natural source.node other) → IsSource graph source
 source_fits parts graph tables source fit leads reached = record {
   leads = leads;
-  reached = λ other.
-      ((λ h. path_along (kinds_from tables.successors) (kind_of graph) Natural (λ i j e. sym (fit.strong.natural i j) ∙ e) source.node other ((reached other).0 h)),
-      (λ p. (reached other).1 (path_along (kind_of graph) (kinds_from tables.successors) Natural (λ i j e. fit.strong.natural i j ∙ e) source.node other p)));
+  reached = λ other. (
+    (λ h. path_along (kinds_from tables.successors) (kind_of graph) Natural (λ i j e. sym (fit.strong.natural i j) ∙ e) source.node other ((reached other).0 h)),
+    (λ p. (reached other).1 (path_along (kind_of graph) (kinds_from tables.successors) Natural (λ i j e. fit.strong.natural i j ∙ e) source.node other p)),
+  );
 }

@@ -1,7 +1,7 @@
 -- Pairs in turn.
-use Rattle.std.proofs.Common.{◌≡◌, ◌≢◌, ◌∙◌, sym, ap, refl, subst, ℕ, ◌+◌, ◌<◌, ◌≤◌, ◌⊎◌, inl, inr, List, length, Bool, true, false, ◌||◌, ◌&&◌, nat_eq, nat_lt, if◌then◌else◌, Option, Some, None, is_some, Result, Ok, Err, OnErr, arith}
+use Rattle.std.proofs.Common.{◌≡◌, ◌≢◌, ◌∙◌, sym, ap, refl, subst, ℕ, ◌+◌, ◌<◌, ◌≤◌, ◌⊎◌, inl, inr, List, length, Bool, true, false, nat_lt, if◌then◌else◌, Option, Some, None, is_some, Result, Ok, Err, OnErr, arith}
 use Rattle.std.proofs.Math.Path.{fun_ext}
-use Rattle.std.proofs.lemmas.Bool.{cases_eq, cases_lt, eqb-true, eq-eqb, ne_eqb, ltb-true, ltb-false, lt-ltb, le-ltb, or_cases, or_left, or_right, or_parts, and_parts, and_from, and_cases, eqb-false, false_from_ne_true, both_ways}
+use Rattle.std.proofs.lemmas.Bool.{cases_eq, cases_lt, eqb-true, eq-eqb, ltb-true, lt-ltb, or_cases, or_left, or_right, and_parts, and_from, false_from_ne_true, both_ways}
 use Rattle.std.proofs.lemmas.Option.{none-some, slice_get_past}
 use Rattle.sas_task.specs.declared.contents.Fact.{Fact}
 use Rattle.sas_task.specs.declared.contents.Parts.{Parts}
@@ -13,8 +13,8 @@ use Rattle.lm_graph.specs.Orders.{is_strong}
 use Rattle.lm_graph.specs.Paths.{Path}
 use Rattle.lm_orders.specs.declared.sources.Source.{Source}
 use Rattle.lm_orders.specs.declared.tables.Tables.{Tables}
-use Rattle.lm_orders.specs.Givers.{IsCompany, HasCompanies}
-use Rattle.lm_orders.specs.Interference.{fact_of, single_of, GoesWith, IsDirectlyBefore}
+use Rattle.lm_orders.specs.Givers.{IsCompany}
+use Rattle.lm_orders.specs.Interference.{fact_of, GoesWith}
 use Rattle.lm_orders.specs.Reasonable.{IsReasonable, is_earlier, standing, IsJudged, AddsBefore, AddsSome}
 use Rattle.lm_orders.specs.Sources.{IsSource, IsUnderWay, IsAtSource}
 use Rattle.lm_orders.specs.Tables.{AreTables, SameStrong}
@@ -61,12 +61,13 @@ early_next i j a b h = elim (early_parts i j a (b + 1) h) [
 ]
 
 late_next : (i j a b : ℕ) → is_earlier i j a (b + 1) ≡ false → (is_earlier i j a b ≡ false) × (i ≡ a → j ≡ b → ⊥)
-late_next i j a b h =
-    (false_from_ne_true _ (λ k. elim (early_parts i j a b k) [
-      | inl less ↦ both_ways _ h (early_from i j a (b + 1) (inl less))
-      | inr both ↦ both_ways _ h (early_from i j a (b + 1) (inr (both.0, omega (arith, both.1))))
-    ]),
-    λ x y. both_ways _ h (early_from i j a (b + 1) (inr (x, omega (arith, y)))))
+late_next i j a b h = (
+  false_from_ne_true _ (λ k. elim (early_parts i j a b k) [
+    | inl less ↦ both_ways _ h (early_from i j a (b + 1) (inl less))
+    | inr both ↦ both_ways _ h (early_from i j a (b + 1) (inr (both.0, omega (arith, both.1))))
+  ]),
+  λ x y. both_ways _ h (early_from i j a (b + 1) (inr (x, omega (arith, y)))),
+)
 
 -- the orders that stand
 
@@ -130,10 +131,13 @@ module _ (parts : Parts) (old now : Content) where
       below i j e = elim (early_parts i j a m e) [ inl less ↦ omega (arith, less) | inr both ↦ omega (arith, both.0) ]
 
       past : (i j : ℕ) → i ≡ a → m ≤ j → IsJudged parts old now i j
-      past i j x le = inr ((λ r. never j le (standing old now i j) (subst (λ k. IsReasonable parts old.nodes (standing old now i j) k j) x r)), adds.others i j (false_from_ne_true _ (λ e. elim (early_parts i j a m e) [
-        | inl less ↦ omega (arith, less, x)
-        | inr both ↦ omega (arith, both.1, le)
-      ])))
+      past i j x le = inr (
+        (λ r. never j le (standing old now i j) (subst (λ k. IsReasonable parts old.nodes (standing old now i j) k j) x r)),
+        adds.others i j (false_from_ne_true _ (λ e. elim (early_parts i j a m e) [
+          | inl less ↦ omega (arith, less, x)
+          | inr both ↦ omega (arith, both.1, le)
+        ])),
+      )
 
       at : (i j : ℕ) → i ≡ a → (j < m) ⊎ (m ≤ j) → IsJudged parts old now i j
       at i j x (inl lt) = adds.judged i j (early_from i j a m (inr (x, lt)))
@@ -205,12 +209,14 @@ module _ (parts : Parts) (old new : Content) (a b : ℕ) (puts : PutsOrder old n
 
   pub source_stays : (source : Source) → source.node ≡ a → a ≢ b → (Path (kind_of old) Reasonable b a → ⊥) → IsSource old source → IsSource new source
   source_stays source at ne never fits = record {
-    leads = λ other.
-        ((λ h. path_along (kind_of old) (kind_of new) Reasonable (orders_grow old new a b puts none) other source.node ((fits.leads other).0 h)),
-        (λ p. (fits.leads other).1 (path_back (kind_of old) (kind_of new) Reasonable a b ne puts.others never other source.node at p)));
-    reached = λ other.
-        ((λ h. path_along (kind_of old) (kind_of new) Natural (λ i j e. same.natural i j ∙ e) source.node other ((fits.reached other).0 h)),
-        (λ p. (fits.reached other).1 (path_along (kind_of new) (kind_of old) Natural (λ i j e. sym (same.natural i j) ∙ e) source.node other p)));
+    leads = λ other. (
+      (λ h. path_along (kind_of old) (kind_of new) Reasonable (orders_grow old new a b puts none) other source.node ((fits.leads other).0 h)),
+      (λ p. (fits.leads other).1 (path_back (kind_of old) (kind_of new) Reasonable a b ne puts.others never other source.node at p)),
+    );
+    reached = λ other. (
+      (λ h. path_along (kind_of old) (kind_of new) Natural (λ i j e. same.natural i j ∙ e) source.node other ((fits.reached other).0 h)),
+      (λ p. (fits.reached other).1 (path_along (kind_of new) (kind_of old) Natural (λ i j e. sym (same.natural i j) ∙ e) source.node other p)),
+    );
   }
     where
       same : SameStrong (kind_of new) (kind_of old)

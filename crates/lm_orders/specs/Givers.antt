@@ -1,8 +1,8 @@
 -- Which operators give a fact, and what goes with a node of one fact.
-use Rattle.std.specs.Prelude.{◌≡◌, ℕ, ◌<◌, List, [], ◌∷◌, map, length, Bool, true, false, ◌||◌, ◌↔◌, nat_eq, Option, Some, None, if◌then◌else◌}
-use Rattle.std.specs.List.{list_any, list_all, filter_map}
+use Rattle.std.specs.Prelude.{◌≡◌, ℕ, ◌<◌, List, [], ◌∷◌, map, length, Bool, true, false, ◌↔◌, nat_eq, Option, Some, None, if◌then◌else◌}
+use Rattle.std.specs.List.{list_any, list_all}
 use Rattle.lama_num.specs.Rows.{row_at}
-use Rattle.sas_task.specs.Facts.{same_fact, has_fact}
+use Rattle.sas_task.specs.Facts.{has_fact}
 use Rattle.sas_task.specs.declared.contents.Fact.{Fact}
 use Rattle.sas_task.specs.declared.contents.Parts.{Parts}
 use Rattle.lm_graph.specs.declared.fact_table.FactTable.{FactTable}
@@ -11,7 +11,6 @@ use Rattle.lm_graph.specs.declared.orders.Edge.{Edge}
 use Rattle.lm_graph.specs.declared.orders.Order.{Order}
 use Rattle.lm_graph.specs.declared.orders.Order.TheVariants.{GreedyNecessary}
 use Rattle.lm_graph.specs.FactTables.{numbers_at}
-use Rattle.lm_graph.specs.Graphs.{Content, row_of, kind_of}
 use Rattle.lm_graph.specs.Orders.{is_strong}
 use Rattle.lm_orders.specs.declared.givers.Givers.{Givers}
 use Rattle.lm_orders.specs.Interference.{fact_of, given_facts, always_given, GoesWith}

@@ -72,9 +72,7 @@ impl Source {
     fn is_new(&self, graph: &Graph, after: u32) -> bool
         ensures { result ≡ is_new_by graph.now self.now after }
     {
-        self.node != after
-            && !is_seen(&self.leads, after)
-            && graph.kind(self.node, after).is_none()
+        self.node != after && !is_seen(&self.leads, after) && graph.kind(self.node, after).is_none()
     }
 
     /// Whether a node is a goal, or needed past this one.
@@ -113,7 +111,7 @@ impl Source {
             AreTables parts graph.now tables.now → IsSource graph.now self.now →
             fact_of graph.now.nodes self.now.node ≡ Some fact →
             (IsTrue result
-                ↔ IsReasonable parts graph.now.nodes (kind_of graph.now) self.now.node after) }
+            ↔ IsReasonable parts graph.now.nodes (kind_of graph.now) self.now.node after) }
     {
         if !self.is_new(graph, after) {
             return false;

@@ -1,4 +1,4 @@
-use Rattle.std.proofs.Common.{◌≡◌, ◌≤◌, ◌∙◌, sym, ap, refl, subst, ℕ, true, false, not, is_some, length, arith, List, Some, None, Option}
+use Rattle.std.proofs.Common.{◌≡◌, ◌≤◌, ◌∙◌, sym, ap, refl, subst, ℕ, not, length, arith, List, Some, None}
 use Rattle.sas_task.specs.declared.contents.Parts.{Parts}
 use Rattle.lm_graph.specs.declared.nodes.Node.{Node}
 use Rattle.lm_graph.specs.Graphs.{Content}
@@ -26,9 +26,9 @@ loop-after-init c =
 pub returns-in_err-order_pair-clause-err : goal.returns-in_err-order_pair-clause-err
 returns-in_err-order_pair-clause-err c =
     let some : (parts : Parts) (old : Content) → IsUnderWay parts old c.args.graph.now c.args.tables.now c.args.node 0 → AddsSome parts old c.order_pair.new.graph =
-        λ parts old under.
-        let at = c.loop-after.invariant.1 parts old under in
-        some_pairs parts old c.order_pair.new.graph c.in_ok-source.source.node c.loop-after.after (subst (λ (g : Content). AddsBefore parts old g c.in_ok-source.source.node c.loop-after.after) (sym c.in_err-order_pair.ensures.err) at.under_way.adds) in
+    λ parts old under.
+    let at = c.loop-after.invariant.1 parts old under in
+    some_pairs parts old c.order_pair.new.graph c.in_ok-source.source.node c.loop-after.after (subst (λ (g : Content). AddsBefore parts old g c.in_ok-source.source.node c.loop-after.after) (sym c.in_err-order_pair.ensures.err) at.under_way.adds) in
     on_error _ some
 
 pub returns-clause-ok : goal.returns-clause-ok
