@@ -1,7 +1,8 @@
 -- Chains after a number more or less.
-use Rattle.std.proofs.Common.{◌≡◌, ◌≢◌, ◌∙◌, sym, ap, subst, refl, ℕ, zero, suc, ◌+◌, ◌<◌, ◌≤◌, ◌⊎◌, inl, inr, List, [], ◌∷◌, length, Bool, true, false, nat_eq, arith, min, max, Option, Some, None, slice_get, slice_set, get_or, replicate, get_or-set_other, get_or-set_same}
+use Rattle.std.proofs.Common.{◌≡◌, ◌≢◌, ◌∙◌, sym, ap, subst, refl, ℕ, zero, suc, ◌+◌, ◌<◌, ◌≤◌, ◌⊎◌, inl, inr, List, [], ◌∷◌, length, Bool, true, false, nat_eq, ◌&&◌, arith, min, max, Option, Some, None, slice_get, slice_set, get_or, replicate, get_or-set_other, get_or-set_same}
 use Rattle.std.proofs.lemmas.Bool.Decides.{nat_tests}
-use Rattle.std.proofs.lemmas.List.{length-set, length-replicate, get_or_default}
+use Rattle.std.proofs.lemmas.Bool.{and_right, cases_lt, eq-eqb, ne_eqb}
+use Rattle.std.proofs.lemmas.List.{length-set, length-replicate, get_or_default, set-get_or, set-set}
 use Rattle.std.proofs.lemmas.Option.{get_or_from_slice_get}
 use Rattle.cost_queue.specs.Queues.{price_of, IsTaken}
 use Rattle.cost_queue.specs.Laws.{there}
@@ -14,7 +15,13 @@ pub places : (m n : ℕ) → ((m ≡ n) × (nat_eq m n ≡ true)) ⊎ ((m ≢ n)
 places m n = grind (arith, nat_tests)
 
 pub same_place : (n : ℕ) → nat_eq n n ≡ true
-same_place n = grind (arith, nat_tests)
+same_place n = eq-eqb n n refl
+
+turned : (m n : ℕ) → nat_eq m n ≡ nat_eq n m
+turned m n = elim (places m n) [
+  | inl same ↦ same.1 ∙ sym (eq-eqb n m (sym same.0))
+  | inr other ↦ other.1 ∙ sym (ne_eqb n m (λ e. other.0 (sym e)))
+]
 
 -- what one number's price changes
 pub waits_here : (waiting : List (Option ℕ)) (number price : ℕ) (x : Option ℕ) → number < length waiting → waits (slice_set waiting number x) number price ≡ one_if (is_price x price)
@@ -32,21 +39,43 @@ waits_once waiting number price at = ap (λ (o : Option ℕ). one_if (is_price o
 pub waited : (waiting : List (Option ℕ)) (number price : ℕ) → 0 < waits waiting number price → price_of waiting number ≡ Some price
 waited waiting number price some = by_price (price_of waiting number) some
   where
-    by_test : (other : ℕ) (b : Bool) → nat_eq other price ≡ b → 0 < one_if b → Some other ≡ Some price
-    by_test other true is some = let same : other ≡ price = grind (arith, nat_tests, is) in ap (λ (n : ℕ). Some n) same
-    by_test other false is some = absurd (omega arith)
-
     by_price : (o : Option ℕ) → 0 < one_if (is_price o price) → o ≡ Some price
     by_price None some = absurd (omega arith)
-    by_price (Some other) some = by_test other (nat_eq other price) refl some
+    by_price (Some other) some = elim (places other price) [
+      | inl same ↦ ap (λ (n : ℕ). Some n) same.0
+      | inr ne ↦ absurd (let none : one_if (nat_eq other price) ≡ 0 = ap one_if ne.1 in omega (arith, some, none))
+    ]
 
--- who waits under one price waits under no other
-pub waits_once_only : (waiting : List (Option ℕ)) (number price other : ℕ) → price_of waiting number ≡ Some price → price ≢ other → waits waiting number other ≡ 0
-waits_once_only waiting number price other at ne = ap (λ (o : Option ℕ). one_if (is_price o other)) at ∙ by_place (places price other)
+-- who waits with one number more, and with one less
+pub waits_more : (waiting : List (Option ℕ)) (number price m q : ℕ) → number < length waiting → price_of waiting number ≡ None → waits (slice_set waiting number (Some price)) m q ≡ one_if (nat_eq price q && nat_eq number m) + waits waiting m q
+waits_more waiting number price m q lt none = elim (places number m) [
+  | inl same ↦
+      let now : waits (slice_set waiting number (Some price)) m q ≡ one_if (nat_eq price q) = ap (λ (n : ℕ). waits (slice_set waiting number (Some price)) n q) (sym same.0) ∙ waits_here waiting number q (Some price) lt in
+      let before : waits waiting m q ≡ 0 = ap (λ (n : ℕ). waits waiting n q) (sym same.0) ∙ never_waits waiting number q none in
+      let one : one_if (nat_eq price q && nat_eq number m) ≡ one_if (nat_eq price q) = ap (λ (b : Bool). one_if (nat_eq price q && b)) same.1 ∙ ap one_if (and_true (nat_eq price q)) in
+      omega (arith, now, before, one)
+  | inr other ↦
+      let kept = waits_there waiting number m q (Some price) (λ e. other.0 (sym e)) in
+      let none_here : one_if (nat_eq price q && nat_eq number m) ≡ 0 = ap (λ (b : Bool). one_if (nat_eq price q && b)) other.1 ∙ ap one_if (and_right (nat_eq price q) false refl) in
+      omega (arith, kept, none_here)
+]
   where
-    by_place : ((price ≡ other) × (nat_eq price other ≡ true)) ⊎ ((price ≢ other) × (nat_eq price other ≡ false)) → one_if (nat_eq price other) ≡ 0
-    by_place (inl same) = absurd (ne same.0)
-    by_place (inr other) = ap one_if other.1
+    and_true : (a : Bool) → (a && true) ≡ a
+    and_true true = refl
+    and_true false = refl
+
+pub waits_less : (waiting : List (Option ℕ)) (number price m q : ℕ) → price_of waiting number ≡ Some price → waits waiting m q ≡ one_if (nat_eq price q && nat_eq number m) + waits (slice_set waiting number None) m q
+waits_less waiting number price m q at =
+    let lt = there waiting number price at in
+    let back : slice_set (slice_set waiting number None) number (Some price) ≡ waiting = set-set waiting number None (Some price) ∙ (ap (λ (o : Option ℕ). slice_set waiting number o) (sym at) ∙ set-get_or waiting number None) in
+    ap (λ (ws : List (Option ℕ)). waits ws m q) (sym back) ∙ waits_more (slice_set waiting number None) number price m q (let long = length-set waiting number None in omega (arith, lt, long)) (get_or-set_same waiting number None None lt)
+
+-- under another price
+pub other_more : (waiting : List (Option ℕ)) (number price m q : ℕ) → number < length waiting → price_of waiting number ≡ None → price ≢ q → waits waiting m q ≡ waits (slice_set waiting number (Some price)) m q
+other_more waiting number price m q lt none ne = let more = waits_more waiting number price m q lt none in let apart : one_if (nat_eq price q && nat_eq number m) ≡ 0 = ap (λ (b : Bool). one_if (b && nat_eq number m)) (ne_eqb price q ne) in omega (arith, more, apart)
+
+pub other_less : (waiting : List (Option ℕ)) (number price m q : ℕ) → price_of waiting number ≡ Some price → price ≢ q → waits waiting m q ≡ waits (slice_set waiting number None) m q
+other_less waiting number price m q at ne = let less = waits_less waiting number price m q at in let apart : one_if (nat_eq price q && nat_eq number m) ≡ 0 = ap (λ (b : Bool). one_if (b && nat_eq number m)) (ne_eqb price q ne) in omega (arith, less, apart)
 
 -- a link of a number that isn't in a chain
 chain_kept : (next : List (Option ℕ)) (number : ℕ) (x head : Option ℕ) (numbers : List ℕ) → occurrences number numbers ≡ 0 → IsChain next head numbers → IsChain (slice_set next number x) head numbers
@@ -68,24 +97,15 @@ chain_longer : (waiting next : List (Option ℕ)) (head : Option ℕ) (number pr
 chain_longer waiting next head number price lt long none c = record {
   numbers = number ∷ c.numbers;
   chain = (refl, subst (λ (o : Option ℕ). IsChain (slice_set next number head) o c.numbers) (sym link) (chain_kept next number head head c.numbers (c.those number ∙ never_waits waiting number price none) c.chain));
-  those = λ m. by_place m (places m number);
+  those = λ m.
+      (let more = waits_more waiting number price m price lt none in
+      let one : one_if (nat_eq price price && nat_eq number m) ≡ one_if (nat_eq m number) = ap (λ (b : Bool). one_if (b && nat_eq number m)) (same_place price) ∙ ap one_if (turned number m) in
+      let before = c.those m in
+      omega (arith, more, one, before));
 }
   where
     link : get_or (slice_set next number head) number None ≡ head
     link = get_or-set_same next number head None (omega arith)
-
-    by_place : (m : ℕ) → ((m ≡ number) × (nat_eq m number ≡ true)) ⊎ ((m ≢ number) × (nat_eq m number ≡ false)) →
-        one_if (nat_eq m number) + occurrences m c.numbers ≡ waits (slice_set waiting number (Some price)) m price
-    by_place m (inl same) =
-        let one : one_if (nat_eq m number) ≡ 1 = ap one_if same.1 in
-        let before : occurrences m c.numbers ≡ 0 = c.those m ∙ (ap (λ (n : ℕ). waits waiting n price) same.0 ∙ never_waits waiting number price none) in
-        let now : waits (slice_set waiting number (Some price)) m price ≡ 1 = ap (λ (n : ℕ). waits (slice_set waiting number (Some price)) n price) same.0 ∙ (waits_here waiting number price (Some price) lt ∙ ap one_if (same_place price)) in
-        omega arith
-    by_place m (inr other) =
-        let none_here : one_if (nat_eq m number) ≡ 0 = ap one_if other.1 in
-        let before = c.those m in
-        let now = waits_there waiting number m price (Some price) other.0 in
-        omega arith
 
 -- the chain of another price
 chain_same : (waiting next : List (Option ℕ)) (head x : Option ℕ) (number price other : ℕ) → number < length waiting → price_of waiting number ≡ None → price ≢ other → Chained waiting next head other →
@@ -93,15 +113,8 @@ chain_same : (waiting next : List (Option ℕ)) (head x : Option ℕ) (number pr
 chain_same waiting next head x number price other lt none ne c = record {
   numbers = c.numbers;
   chain = chain_kept next number x head c.numbers (c.those number ∙ never_waits waiting number other none) c.chain;
-  those = λ m. c.those m ∙ by_place m (places m number);
+  those = λ m. c.those m ∙ other_more waiting number price m other lt none ne;
 }
-  where
-    by_place : (m : ℕ) → ((m ≡ number) × (nat_eq m number ≡ true)) ⊎ ((m ≢ number) × (nat_eq m number ≡ false)) → waits waiting m other ≡ waits (slice_set waiting number (Some price)) m other
-    by_place m (inl same) =
-        let before : waits waiting m other ≡ 0 = ap (λ (n : ℕ). waits waiting n other) same.0 ∙ never_waits waiting number other none in
-        let now : waits (slice_set waiting number (Some price)) m other ≡ 0 = ap (λ (n : ℕ). waits (slice_set waiting number (Some price)) n other) same.0 ∙ waits_once_only (slice_set waiting number (Some price)) number price other (get_or-set_same waiting number (Some price) None lt) ne in
-        before ∙ sym now
-    by_place m (inr elsewhere) = sym (waits_there waiting number m other (Some price) elsewhere.0)
 
 pub low_pushed : (waiting next heads : List (Option ℕ)) (start end now_start now_end number price : ℕ) (head : Option ℕ) → number < length waiting → price_of waiting number ≡ None → price < 16384 → head ≡ get_or heads price None →
     now_start ≡ min start price → now_end ≡ max end (price + 1) → AreChained waiting next heads start end →
@@ -167,35 +180,19 @@ rest_same : (waiting next : List (Option ℕ)) (head : Option ℕ) (number price
 rest_same waiting next head number price other at ne c = record {
   numbers = c.numbers;
   chain = c.chain;
-  those = λ m. c.those m ∙ by_place m (places m number);
+  those = λ m. c.those m ∙ other_less waiting number price m other at ne;
 }
-  where
-    by_place : (m : ℕ) → ((m ≡ number) × (nat_eq m number ≡ true)) ⊎ ((m ≢ number) × (nat_eq m number ≡ false)) → waits waiting m other ≡ waits (slice_set waiting number None) m other
-    by_place m (inl same) =
-        let before : waits waiting m other ≡ 0 = ap (λ (n : ℕ). waits waiting n other) same.0 ∙ waits_once_only waiting number price other at ne in
-        let now : waits (slice_set waiting number None) m other ≡ 0 = ap (λ (n : ℕ). waits (slice_set waiting number None) n other) same.0 ∙ waits_here waiting number other None (there waiting number price at) in
-        before ∙ sym now
-    by_place m (inr elsewhere) = sym (waits_there waiting number m other None elsewhere.0)
 
 rest_of : (waiting next : List (Option ℕ)) (head : Option ℕ) (number price : ℕ) → price_of waiting number ≡ Some price → First waiting next number price → Chained (slice_set waiting number None) next (get_or next number None) price
 rest_of waiting next head number price at f = record {
   numbers = f.rest;
   chain = f.chain;
-  those = λ m. by_place m (places m number);
+  those = λ m.
+      (let less = waits_less waiting number price m price at in
+      let one : one_if (nat_eq price price && nat_eq number m) ≡ one_if (nat_eq m number) = ap (λ (b : Bool). one_if (b && nat_eq number m)) (same_place price) ∙ ap one_if (turned number m) in
+      let before = f.those m in
+      omega (arith, less, one, before));
 }
-  where
-    by_place : (m : ℕ) → ((m ≡ number) × (nat_eq m number ≡ true)) ⊎ ((m ≢ number) × (nat_eq m number ≡ false)) → occurrences m f.rest ≡ waits (slice_set waiting number None) m price
-    by_place m (inl same) =
-        let one : one_if (nat_eq m number) ≡ 1 = ap one_if same.1 in
-        let before : waits waiting m price ≡ 1 = ap (λ (n : ℕ). waits waiting n price) same.0 ∙ waits_once waiting number price at in
-        let now : waits (slice_set waiting number None) m price ≡ 0 = ap (λ (n : ℕ). waits (slice_set waiting number None) n price) same.0 ∙ waits_here waiting number price None (there waiting number price at) in
-        let those = f.those m in
-        omega arith
-    by_place m (inr elsewhere) =
-        let none_here : one_if (nat_eq m number) ≡ 0 = ap one_if elsewhere.1 in
-        let those = f.those m in
-        let now = waits_there waiting number m price None elsewhere.0 in
-        omega arith
 
 low_popped : (waiting next heads : List (Option ℕ)) (start end number price : ℕ) (after : Option ℕ) → price < end → get_or heads price None ≡ Some number → after ≡ get_or next number None →
     ((q : ℕ) → start ≤ q → q < price → get_or heads q None ≡ None) → AreChained waiting next heads start end →
@@ -205,7 +202,7 @@ low_popped waiting next heads start end number price after less at after_is empt
   heads_long = length-set heads price after ∙ c.heads_long;
   end_within = c.end_within;
   chains = λ q small. by_place q small (places q price);
-  first = λ q before. get_or-set_other heads price q after None (λ e. absurd (omega arith)) ∙ by_order q before (order q);
+  first = λ q before. get_or-set_other heads price q after None (λ e. absurd (omega arith)) ∙ by_order q before (cases_lt q start);
   last = λ q behind. get_or-set_other heads price q after None (λ e. absurd (omega arith)) ∙ c.last q behind;
 }
   where
@@ -214,9 +211,6 @@ low_popped waiting next heads start end number price after less at after_is empt
 
     waits_now : price_of waiting number ≡ Some price
     waits_now = first_waits waiting next (get_or heads price None) number price at (c.chains price low)
-
-    order : (q : ℕ) → (q < start) ⊎ (start ≤ q)
-    order q = grind arith
 
     by_order : (q : ℕ) → q < price → (q < start) ⊎ (start ≤ q) → get_or heads q None ≡ None
     by_order q before (inl first) = c.first q first
@@ -240,14 +234,11 @@ low_taken : (waiting next heads : List (Option ℕ)) (start end : ℕ) (entry : 
 low_taken waiting next heads start end entry less at empty c = record {
   waited = first_waits waiting next (get_or heads entry.price None) entry.number entry.price at (c.chains entry.price low);
   rest = refl;
-  least = λ number price waits_there. by_order number price waits_there (order price entry.price);
+  least = λ number price waits_there. by_order number price waits_there (cases_lt price entry.price);
 }
   where
     low : entry.price < 16384
     low = let within = c.end_within in omega arith
-
-    order : (a b : ℕ) → (a < b) ⊎ (b ≤ a)
-    order a b = grind arith
 
     head_none : (price : ℕ) → price < entry.price → (price < start) ⊎ (start ≤ price) → get_or heads price None ≡ None
     head_none price before (inl first) = c.first price first
@@ -256,7 +247,7 @@ low_taken waiting next heads start end entry less at empty c = record {
     by_order : (number price : ℕ) → price_of waiting number ≡ Some price → (price < entry.price) ⊎ (entry.price ≤ price) → entry.price ≤ price
     by_order number price waits_there (inr le) = le
     by_order number price waits_there (inl lt) =
-        let none = empty_chain waiting next (get_or heads price None) price number (head_none price lt (order price start)) (c.chains price (omega arith)) in
+        let none = empty_chain waiting next (get_or heads price None) price number (head_none price lt (cases_lt price start)) (c.chains price (omega arith)) in
         let one = waits_once waiting number price waits_there in
         absurd (omega arith)
 
@@ -288,11 +279,8 @@ found_popped waiting next heads shown start end entry after same first empty aft
 -- all wait under high prices where no chain has any
 pub none_low : (waiting next heads : List (Option ℕ)) (start end : ℕ) → ((q : ℕ) → start ≤ q → q < end → get_or heads q None ≡ None) → AreChained waiting next heads start end →
     (number price : ℕ) → price_of waiting number ≡ Some price → 16384 ≤ price
-none_low waiting next heads start end empty c number price at = by_order (order price 16384)
+none_low waiting next heads start end empty c number price at = by_order (cases_lt price 16384)
   where
-    order : (a b : ℕ) → (a < b) ⊎ (b ≤ a)
-    order a b = grind arith
-
     head_none : (price < start) ⊎ (start ≤ price) → (price < end) ⊎ (end ≤ price) → get_or heads price None ≡ None
     head_none (inl first) b = c.first price first
     head_none (inr later) (inl within) = empty price later within
@@ -301,7 +289,7 @@ none_low waiting next heads start end empty c number price at = by_order (order 
     by_order : (price < 16384) ⊎ (16384 ≤ price) → 16384 ≤ price
     by_order (inr le) = le
     by_order (inl lt) =
-        let none = empty_chain waiting next (get_or heads price None) price number (head_none (order price start) (order price end)) (c.chains price lt) in
+        let none = empty_chain waiting next (get_or heads price None) price number (head_none (cases_lt price start) (cases_lt price end)) (c.chains price lt) in
         let one = waits_once waiting number price at in
         absurd (omega arith)
 
@@ -312,18 +300,10 @@ low_kept_more waiting next heads start end number price lt none high c = record 
   next_long = c.next_long ∙ sym (length-set waiting number (Some price));
   heads_long = c.heads_long;
   end_within = c.end_within;
-  chains = λ q small. (let chain = c.chains q small in record { numbers = chain.numbers; chain = chain.chain; those = λ m. chain.those m ∙ by_place q small m (places m number) });
+  chains = λ q small. (let chain = c.chains q small in record { numbers = chain.numbers; chain = chain.chain; those = λ m. chain.those m ∙ other_more waiting number price m q lt none (λ e. absurd (omega arith)) });
   first = c.first;
   last = c.last;
 }
-  where
-    by_place : (q : ℕ) → q < 16384 → (m : ℕ) → ((m ≡ number) × (nat_eq m number ≡ true)) ⊎ ((m ≢ number) × (nat_eq m number ≡ false)) → waits waiting m q ≡ waits (slice_set waiting number (Some price)) m q
-    by_place q small m (inl same) =
-        let ne : price ≢ q = λ e. absurd (omega arith) in
-        let before : waits waiting m q ≡ 0 = ap (λ (n : ℕ). waits waiting n q) same.0 ∙ never_waits waiting number q none in
-        let now : waits (slice_set waiting number (Some price)) m q ≡ 0 = ap (λ (n : ℕ). waits (slice_set waiting number (Some price)) n q) same.0 ∙ waits_once_only (slice_set waiting number (Some price)) number price q (get_or-set_same waiting number (Some price) None lt) ne in
-        before ∙ sym now
-    by_place q small m (inr elsewhere) = sym (waits_there waiting number m q (Some price) elsewhere.0)
 
 pub low_kept_less : (waiting next heads : List (Option ℕ)) (start end number price : ℕ) → price_of waiting number ≡ Some price → 16384 ≤ price → AreChained waiting next heads start end →
     AreChained (slice_set waiting number None) next heads start end

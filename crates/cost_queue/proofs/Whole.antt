@@ -51,14 +51,14 @@ on_ok : {T E : Type 0} (result : Result T E) (P : Type 0) → IsOk result → On
 on_ok (Ok x) P is holds = holds
 on_ok (Err e) P is holds = let k = is in cc
 
-pub pushed_high : {T E : Type 0} (next heads : List (Option ℕ)) (start end number price : ℕ) (old new : List Item) (x : Item) (len now capacity room : ℕ) (w : Waiting next heads start end old len capacity) (result : Result T E) → number < length w.0 → price_of w.0 number ≡ None → 16384 ≤ price → x.0.0 ≡ price → x.0.1 ≡ number →
-    (len < capacity → IsOk result) → OnOk result (now ≡ len + 1) → capacity ≤ room → OnOk result (IsPermutation (x ∷ old) new) → OnOk result (IsHeap order old → IsHeap order new) → ∥ IsQueue (slice_set w.0 number (Some price)) next heads start end new now room ∥₁
-pushed_high next heads start end number price old new x len now capacity room w result lt none high price_is number_is succeeds grows wider permuted heaped =
-    let is = succeeds (has_place next heads start end number old len capacity w lt none) in
+pub pushed_high : {T E : Type 0} (next heads : List (Option ℕ)) (start end : ℕ) (old new : List Item) (x : Item) (len now capacity room : ℕ) (w : Waiting next heads start end old len capacity) (result : Result T E) → x.0.1 < length w.0 → price_of w.0 x.0.1 ≡ None → 16384 ≤ x.0.0 →
+    (len < capacity → IsOk result) → OnOk result (now ≡ len + 1) → capacity ≤ room → OnOk result (IsPermutation (x ∷ old) new) → OnOk result (IsHeap order old → IsHeap order new) → ∥ IsQueue (slice_set w.0 x.0.1 (Some x.0.0)) next heads start end new now room ∥₁
+pushed_high next heads start end old new x len now capacity room w result lt none high succeeds grows wider permuted heaped =
+    let is = succeeds (has_place next heads start end x.0.1 old len capacity w lt none) in
     ∥∥₁_map w.1 (λ q. record {
-      few = let long = length-set w.0 number (Some price) in let few = q.few in omega arith;
-      low = low_kept_more w.0 next heads start end number price lt none high q.low;
-      high = high_pushed w.0 old new x len now capacity room number price lt none high price_is number_is (on_ok result (now ≡ len + 1) is grows) wider (on_ok result (IsPermutation (x ∷ old) new) is permuted) (on_ok result (IsHeap order old → IsHeap order new) is heaped) q.high;
+      few = let long = length-set w.0 x.0.1 (Some x.0.0) in let few = q.few in omega arith;
+      low = low_kept_more w.0 next heads start end x.0.1 x.0.0 lt none high q.low;
+      high = high_pushed w.0 old new x len now capacity room lt none high (on_ok result (now ≡ len + 1) is grows) wider (on_ok result (IsPermutation (x ∷ old) new) is permuted) (on_ok result (IsHeap order old → IsHeap order new) is heaped) q.high;
     })
 
 -- the first of the first chain is taken out
