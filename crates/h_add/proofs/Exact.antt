@@ -1,7 +1,6 @@
 -- What is reached costs what it does by the rounds.
 use Rattle.std.proofs.Common.{◌≡◌, ◌≢◌, ◌∙◌, sym, ap, subst, refl, ℕ, zero, suc, ◌+◌, ◌*◌, ◌<◌, ◌≤◌, ◌⊎◌, inl, inr, List, [], ◌∷◌, ◌++◌, length, min, Bool, true, false, nat_eq, nat_le, nat_lt, not, ◌&&◌, ◌||◌, arith, Option, Some, None, slice_get, if◌then◌else◌}
 use Rattle.std.specs.List.{list_all}
-use Rattle.std.proofs.lemmas.Bool.Decides.{nat_tests}
 use Rattle.std.proofs.lemmas.List.Folds.{list_any-append}
 use Rattle.std.proofs.lemmas.Option.{slice_get_within}
 use Rattle.cost_queue.specs.Occurrences.{occurrences}
@@ -11,7 +10,11 @@ use Rattle.lama_num.specs.Lists.{both}
 use Rattle.lama_num.specs.declared.estimates.Estimate.{Estimate}
 use Rattle.lama_num.specs.declared.estimates.Estimate.TheVariants.{Finite, Infinite}
 use Rattle.relaxed_task.specs.EstimateLaws.{at_most_self, at_most_trans, at_most_infinite, IsCapped, at_most_both}
-use Rattle.h_add.proofs.Rounds.{closed_is_below}
+use Rattle.h_add.proofs.Rounds.{closed_is_below, price_attained}
+use Rattle.h_add.proofs.Ordered.{turned}
+use Rattle.relaxed_task.specs.Elements.{denied}
+use Rattle.std.proofs.lemmas.Bool.{eqb-true, false_from_ne_true, leb-true, leb-false, lt-ltb}
+use Rattle.std.proofs.lemmas.List.{append-nil}
 use Rattle.h_add.specs.ByNumber.{IsClosed, AreBest, IsBest, IsInOrder, is_started, add_round, price}
 use Rattle.relaxed_task.specs.Estimates.{is_finite, IsAtMost, IsLeast}
 use Rattle.relaxed_task.specs.Numbers.{is_among}
@@ -21,7 +24,7 @@ use Rattle.h_add.specs.Orders.{chosen, given_by, are_places, IsOrder}
 use Rattle.h_add.specs.Settlements.{Settlement, cost_at, is_settled, is_reached, is_left_out, open_at}
 use Rattle.h_add.specs.UnderWay.{unreached, paid, IsCounted, IsWanted, HasSettled, IsUnderWay, IsSettling, IsFrom}
 use Rattle.h_add.specs.Values.{estimate_of, value_at}
-use Rattle.h_add.proofs.Reaching.{finite_is, infinite_is, large_cost, is_small, reached_small, all_reached, some_unreached, price_paid, total_paid, itself, and_true}
+use Rattle.h_add.proofs.Reaching.{finite_is, infinite_is, reached_small, all_reached, some_unreached, price_paid, total_paid, itself, and_true, or_false}
 
 -- What is reached costs what it does so far, what is left out is infinite, and all else costs so much.
 abbrev bound : Settlement → Estimate → ℕ → Estimate
@@ -76,11 +79,11 @@ some_more t top (c ∷ conds) capped some = by_test (is_reached t c) refl some (
 reached_bound : (t : Settlement) (top : Estimate) (fact : ℕ) → is_reached t fact ≡ true → bound t top fact ≡ value_at t.costs fact
 reached_bound t top fact is = rw is refl
 
-all_same : (t : Settlement) (top : Estimate) (conds : List ℕ) → list_all (is_reached t) conds ≡ true → total (bound t top) conds ≡ total (value_at t.costs) conds
-all_same t top [] all = refl
-all_same t top (c ∷ conds) all =
-    let parts = both (is_reached t c) (list_all (is_reached t) conds) all in
-    ap (λ (e : Estimate). estimate_sum e (total (bound t top) conds)) (reached_bound t top c parts.0) ∙ ap (λ (e : Estimate). estimate_sum (value_at t.costs c) e) (all_same t top conds parts.1)
+sum_same : (v w : ℕ → Estimate) (p : ℕ → Bool) (facts : List ℕ) → ((fact : ℕ) → p fact ≡ true → v fact ≡ w fact) → list_all p facts ≡ true → total v facts ≡ total w facts
+sum_same v w p [] same all = refl
+sum_same v w p (f ∷ facts) same all =
+    let parts = both (p f) (list_all p facts) all in
+    ap (λ (e : Estimate). estimate_sum e (total v facts)) (same f parts.0) ∙ ap (λ (e : Estimate). estimate_sum (w f) e) (sum_same v w p facts same parts.1)
 
 -- what is asked for by one with all conditions reached
 pub price_sum : (unaries : List Unary) (level place : ℕ) (t : Settlement) (u : Unary) → slice_get unaries place ≡ Some u → list_all (is_reached t) u.conds ≡ true → IsUnderWay unaries level [] t →
@@ -112,29 +115,90 @@ closed unaries without level t top out p way i u at stays = by_test (list_all (i
     by_test true all =
         let was = way.each i u at in
         let asks = price_sum unaries level i t u at all way in
-        let same : price (bound t top) u ≡ Finite (open_at t i).sum = ap (λ (e : Estimate). estimate_sum (Finite u.cost) e) (all_same t top u.conds all) ∙ asks.1 in
+        let same : price (bound t top) u ≡ Finite (open_at t i).sum = ap (λ (e : Estimate). estimate_sum (Finite u.cost) e) (sum_same (bound t top) (value_at t.costs) (is_reached t) u.conds (λ fact is. reached_bound t top fact is) all) ∙ asks.1 in
         rw same (gives_less (is_reached t u.gives) refl (was.offered asks.0 kept) was.small)
     by_test false some =
         at_most_trans (bound t top u.gives) top (price (bound t top) u) (below_top t top u.gives p kept)
         (right_more top (Finite u.cost) (total (bound t top) u.conds) p.capped (some_more t top u.conds p.capped some))
 
+-- those that settled a fact are best
+all_best : (unaries : List Unary) (level : ℕ) (t : Settlement) (order : List ℕ) → ((place : ℕ) → is_among order place ≡ true → HasSettled unaries t place) → IsUnderWay unaries level [] t → (are_places (length unaries) order ≡ true) × AreBest unaries (value_at t.costs) (chosen unaries order)
+all_best unaries level t [] each way = (refl, tt)
+all_best unaries level t (i ∷ order) each way =
+    let here = each i (among i) in
+    let rest = all_best unaries level t order (λ place is. each place (later place is)) way in
+    let lt : nat_lt i (length unaries) ≡ true = lt-ltb i (length unaries) (slice_get_within unaries i here.unary here.at) in
+    let small = reached_small t here.unary.gives here.reached in
+    let count = (way.each i here.unary here.at).count in
+    let none = here.none_open in
+    let asks = price_sum unaries level i t here.unary here.at (all_reached (is_reached t) here.unary.conds (omega (arith, count, none))) way in
+    let value : value_at t.costs here.unary.gives ≡ Finite (cost_at t here.unary.gives) = finite_is (cost_at t here.unary.gives) small.1 in
+    let best : IsBest unaries (value_at t.costs) here.unary = record { place = i; at = here.at; finite = ap is_finite value; pays = asks.1 ∙ (ap (λ (n : ℕ). Finite n) (sym here.pays) ∙ sym value) } in
+    (rw lt rest.0, rw here.at (best, rest.1))
+  where
+    among : (i : ℕ) → is_among (i ∷ order) i ≡ true
+    among i = rw (itself i) refl
+
+    later : (place : ℕ) → is_among order place ≡ true → is_among (i ∷ order) place ≡ true
+    later place is = by_test (nat_eq place i)
+      where
+        by_test : (b : Bool) → (b || is_among order place) ≡ true
+        by_test true = refl
+        by_test false = is
+
+-- what is given in order by best supporters is attained by rounds
+attained_in : (unaries : List Unary) (start without : List ℕ) (v : ℕ → Estimate) (have : List ℕ) (list : List Unary) → ((fact : ℕ) → is_among without fact ≡ true → v fact ≡ Infinite) → IsInOrder have list → AreBest unaries v list →
+    ((fact : ℕ) → is_among have fact ≡ true → (n : ℕ) × IsAtMost (add_round unaries start without n fact) (v fact)) → (fact : ℕ) → is_among (have ++ given_by list) fact ≡ true → (n : ℕ) × IsAtMost (add_round unaries start without n fact) (v fact)
+attained_in unaries start without v have [] outside order best so fact among = so fact (rw append-nil at among)
+attained_in unaries start without v have (u ∷ list) outside order best so fact among =
+    attained_in unaries start without v (u.gives ∷ have) list outside order.2 best.1 (λ f is. more f (is_among have f) refl is) fact (subst (λ (p : ℕ → Bool). p fact ≡ true) (turned u.gives have (given_by list)) among)
+  where
+    w : ℕ → Estimate
+    w f = if is_among have f then v f else Infinite
+
+    each : (f : ℕ) (b : Bool) → is_among have f ≡ b → (n : ℕ) × IsAtMost (add_round unaries start without n f) (if b then v f else Infinite)
+    each f true is = so f is
+    each f false is = (0, at_most_infinite (add_round unaries start without 0 f))
+
+    stays : is_among without u.gives ≡ false
+    stays = false_from_ne_true (is_among without u.gives) (λ out. let k : true ≡ false = sym best.0.finite ∙ ap is_finite (outside u.gives out) in cc)
+
+    price_is : price w u ≡ v u.gives
+    price_is = ap (λ (e : Estimate). estimate_sum (Finite u.cost) e) (sum_same w v (is_among have) u.conds (λ f is. rw is refl) order.0) ∙ best.0.pays
+
+    gives : (n : ℕ) × IsAtMost (add_round unaries start without n u.gives) (v u.gives)
+    gives = let a = price_attained unaries start without w best.0.place u best.0.at stays (λ f. each f (is_among have f) refl) in (a.0, rw price_is at a.1)
+
+    more : (f : ℕ) (b : Bool) → is_among have f ≡ b → is_among (u.gives ∷ have) f ≡ true → (n : ℕ) × IsAtMost (add_round unaries start without n f) (v f)
+    more f true is among = so f is
+    more f false is among =
+        let same : f ≡ u.gives = eqb-true f u.gives (sym (or_false (nat_eq f u.gives)) ∙ rw is at among) in
+        subst (λ (g : ℕ). (n : ℕ) × IsAtMost (add_round unaries start without n g) (v g)) (sym same) gives
+
+-- a fact that is reached costs no less than by the rounds
+reached_attained : (unaries : List Unary) (start without : List ℕ) (t : Settlement) (fact : ℕ) → is_reached t fact ≡ true → IsSettling unaries t → IsFrom unaries without start t → (n : ℕ) × IsAtMost (add_round unaries start without n fact) (value_at t.costs fact)
+reached_attained unaries start without t fact is s from =
+    attained_in unaries start without (value_at t.costs) start (chosen unaries t.order) outside from.in_order (all_best unaries s.level t t.order s.way.settled_by s.way).1 (λ f among. first f among (is_among without f) refl) fact
+    (both (is_among (start ++ given_by (chosen unaries t.order)) fact) (not (is_among without fact)) (sym (from.reached fact) ∙ is)).0
+  where
+    outside : (f : ℕ) → is_among without f ≡ true → value_at t.costs f ≡ Infinite
+    outside f out = let large = denied (nat_le (cost_at t f) 1000000000) (both (is_settled t f) (not (nat_le (cost_at t f) 1000000000)) (from.out f ∙ out)).1 in rw large refl
+
+    first : (f : ℕ) → is_among start f ≡ true → (b : Bool) → is_among without f ≡ b → (n : ℕ) × IsAtMost (add_round unaries start without n f) (value_at t.costs f)
+    first f among true out = (0, rw (outside f out) (at_most_infinite (add_round unaries start without 0 f)))
+    first f among false stays = (0, rw (among, stays, from.first f among stays) (at_most_self (Finite 0)))
+
 -- the facts of the start are reached at no cost
-first_bound : (unaries : List Unary) (start without : List ℕ) (t : Settlement) (top : Estimate) → IsFrom unaries start without start t → (fact : ℕ) → is_started start without fact ≡ true → bound t top fact ≡ Finite 0
+first_bound : (unaries : List Unary) (start without : List ℕ) (t : Settlement) (top : Estimate) → IsFrom unaries without start t → (fact : ℕ) → is_started start without fact ≡ true → bound t top fact ≡ Finite 0
 first_bound unaries start without t top from fact begins =
     let parts = both (is_among start fact) (not (is_among without fact)) begins in
     let stays : is_among without fact ≡ false = denied (is_among without fact) parts.1 in
     let among : is_among (start ++ given_by (chosen unaries t.order)) fact ≡ true = list_any-append (nat_eq fact) start (given_by (chosen unaries t.order)) ∙ ap (λ (b : Bool). b || is_among (given_by (chosen unaries t.order)) fact) parts.0 in
     let is : is_reached t fact ≡ true = from.reached fact ∙ rw (among, stays) refl in
     reached_bound t top fact is ∙ ap estimate_of (from.first fact parts.0 stays)
-  where
-    denied : (b : Bool) → not b ≡ true → b ≡ false
-    denied true h = let k : false ≡ true = h in cc
-    denied false h = refl
-
-exact_where : (unaries : List Unary) (start without : List ℕ) (level : ℕ) (t : Settlement) (top : Estimate) (fact : ℕ) → bound t top fact ≡ value_at t.costs fact → Parts t top → IsUnderWay unaries level [] t → IsFrom unaries start without start t →
-    IsLeast (λ n. add_round unaries start without n fact) (value_at t.costs fact)
-exact_where unaries start without level t top fact same p way from =
-    let a = from.attained fact in
+exact_where : (unaries : List Unary) (start without : List ℕ) (level : ℕ) (t : Settlement) (top : Estimate) (fact : ℕ) → bound t top fact ≡ value_at t.costs fact → (n : ℕ) × IsAtMost (add_round unaries start without n fact) (value_at t.costs fact) → Parts t top → IsUnderWay unaries level [] t →
+    IsFrom unaries without start t → IsLeast (λ n. add_round unaries start without n fact) (value_at t.costs fact)
+exact_where unaries start without level t top fact same a p way from =
     let below : (n : ℕ) → IsAtMost (value_at t.costs fact) (add_round unaries start without n fact) =
     λ n. subst (λ (e : Estimate). IsAtMost e (add_round unaries start without n fact)) same (closed_is_below unaries start without (bound t top) (first_bound unaries start without t top from) (closed unaries without level t top from.out p way) n fact) in
     record { round = a.0; is = at_most_both (add_round unaries start without a.0 fact) (value_at t.costs fact) a.1 (below a.0); least = below }
@@ -152,48 +216,46 @@ parts_at unaries level t way = record {
     either false is out = let k : true ≡ false = out in cc
 
     by_cost : (fact : ℕ) → is_settled t fact ≡ false → (b : Bool) → nat_le (cost_at t fact) 1000000000 ≡ b → IsAtMost (Finite level) (value_at t.costs fact)
-    by_cost fact new false large = rw (infinite_is (cost_at t fact) (large_cost (cost_at t fact) large)) tt
+    by_cost fact new false large = rw (infinite_is (cost_at t fact) (leb-false (cost_at t fact) 1000000000 large)) tt
     by_cost fact new true small =
-        let le : cost_at t fact ≤ 1000000000 = little (cost_at t fact) small in
+        let le : cost_at t fact ≤ 1000000000 = leb-true (cost_at t fact) 1000000000 small in
         let w = way.wanted fact new le in
         let waits = way.waits w.place (cost_at t fact) w.waits in
         rw (finite_is (cost_at t fact) le) waits.above
-      where
-        little : (n : ℕ) → nat_le n 1000000000 ≡ true → n ≤ 1000000000
-        little n h = grind (arith, nat_tests, h)
 
     above : (fact : ℕ) (b : Bool) → is_settled t fact ≡ b → is_reached t fact ≡ false → is_left_out t fact ≡ false → IsAtMost (Finite level) (value_at t.costs fact)
     above fact true is not_there kept = absurd (either (nat_le (cost_at t fact) 1000000000) (rw is at not_there) (rw is at kept))
     above fact false is not_there kept = by_cost fact is (nat_le (cost_at t fact) 1000000000) refl
 
 -- A fact that is reached costs what it does by the rounds, also where others are not settled yet.
-pub reached_exact : (unaries : List Unary) (start without : List ℕ) (t : Settlement) (fact : ℕ) → is_reached t fact ≡ true → IsSettling unaries t → IsFrom unaries start without start t → IsLeast (λ n. add_round unaries start without n fact) (value_at t.costs fact)
+pub reached_exact : (unaries : List Unary) (start without : List ℕ) (t : Settlement) (fact : ℕ) → is_reached t fact ≡ true → IsSettling unaries t → IsFrom unaries without start t → IsLeast (λ n. add_round unaries start without n fact) (value_at t.costs fact)
 reached_exact unaries start without t fact is s from =
-    exact_where unaries start without s.level t (Finite s.level) fact (reached_bound t (Finite s.level) fact is) (parts_at unaries s.level t s.way) s.way from
+    exact_where unaries start without s.level t (Finite s.level) fact (reached_bound t (Finite s.level) fact is) (reached_attained unaries start without t fact is s from) (parts_at unaries s.level t s.way) s.way from
 
 -- where none waits, what isn't reached is infinite
 pub idle_infinite : (unaries : List Unary) (t : Settlement) (fact : ℕ) → IsIdle t.waiting → is_reached t fact ≡ false → IsSettling unaries t → value_at t.costs fact ≡ Infinite
 idle_infinite unaries t fact idle not_there s = by_cost (nat_le (cost_at t fact) 1000000000) refl (is_settled t fact) refl
   where
     by_cost : (b : Bool) → nat_le (cost_at t fact) 1000000000 ≡ b → (a : Bool) → is_settled t fact ≡ a → value_at t.costs fact ≡ Infinite
-    by_cost false large a is = infinite_is (cost_at t fact) (large_cost (cost_at t fact) large)
+    by_cost false large a is = infinite_is (cost_at t fact) (leb-false (cost_at t fact) 1000000000 large)
     by_cost true small true is = let k : true ≡ false = sym (rw (is, small) refl) ∙ not_there in absurd cc
     by_cost true small false is =
-        let w = s.way.wanted fact is (little (cost_at t fact) small) in
+        let w = s.way.wanted fact is (leb-true (cost_at t fact) 1000000000 small) in
         let k : None ≡ Some (cost_at t fact) = sym (idle w.place) ∙ w.waits in
         absurd cc
-      where
-        little : (n : ℕ) → nat_le n 1000000000 ≡ true → n ≤ 1000000000
-        little n h = grind (arith, nat_tests, h)
 
 -- Where none waits, all facts cost what they do by the rounds.
-pub idle_exact : (unaries : List Unary) (start without : List ℕ) (t : Settlement) → IsIdle t.waiting → IsSettling unaries t → IsFrom unaries start without start t → (fact : ℕ) → IsLeast (λ n. add_round unaries start without n fact) (value_at t.costs fact)
-idle_exact unaries start without t idle s from fact = exact_where unaries start without s.level t Infinite fact (same (is_reached t fact) (is_left_out t fact) refl) parts s.way from
+pub idle_exact : (unaries : List Unary) (start without : List ℕ) (t : Settlement) → IsIdle t.waiting → IsSettling unaries t → IsFrom unaries without start t → (fact : ℕ) → IsLeast (λ n. add_round unaries start without n fact) (value_at t.costs fact)
+idle_exact unaries start without t idle s from fact = exact_where unaries start without s.level t Infinite fact (same (is_reached t fact) (is_left_out t fact) refl) (attained (is_reached t fact) refl) parts s.way from
   where
     same : (a b : Bool) → is_reached t fact ≡ a → (if a then value_at t.costs fact else (if b then Infinite else Infinite)) ≡ value_at t.costs fact
     same true b is = refl
     same false true is = sym (idle_infinite unaries t fact idle is s)
     same false false is = sym (idle_infinite unaries t fact idle is s)
+
+    attained : (a : Bool) → is_reached t fact ≡ a → (n : ℕ) × IsAtMost (add_round unaries start without n fact) (value_at t.costs fact)
+    attained true is = reached_attained unaries start without t fact is s from
+    attained false is = (0, rw (idle_infinite unaries t fact idle is s) (at_most_infinite (add_round unaries start without 0 fact)))
 
     parts : Parts t Infinite
     parts = record {
@@ -202,35 +264,7 @@ idle_exact unaries start without t idle s from fact = exact_where unaries start 
       above = λ f not_there kept. rw (idle_infinite unaries t f idle not_there s) tt;
     }
 
--- those that settled a fact are best
-all_best : (unaries : List Unary) (level : ℕ) (t : Settlement) (order : List ℕ) → ((place : ℕ) → is_among order place ≡ true → HasSettled unaries t place) → IsUnderWay unaries level [] t → (are_places (length unaries) order ≡ true) × AreBest unaries (value_at t.costs) (chosen unaries order)
-all_best unaries level t [] each way = (refl, tt)
-all_best unaries level t (i ∷ order) each way =
-    let here = each i (among i) in
-    let rest = all_best unaries level t order (λ place is. each place (later place is)) way in
-    let lt : nat_lt i (length unaries) ≡ true = below i (length unaries) (slice_get_within unaries i here.unary here.at) in
-    let small = reached_small t here.unary.gives here.reached in
-    let count = (way.each i here.unary here.at).count in
-    let none = here.none_open in
-    let asks = price_sum unaries level i t here.unary here.at (all_reached (is_reached t) here.unary.conds (omega (arith, count, none))) way in
-    let value : value_at t.costs here.unary.gives ≡ Finite (cost_at t here.unary.gives) = finite_is (cost_at t here.unary.gives) small.1 in
-    let best : IsBest unaries (value_at t.costs) here.unary = record { place = i; at = here.at; finite = ap is_finite value; pays = asks.1 ∙ (ap (λ (n : ℕ). Finite n) (sym here.pays) ∙ sym value) } in
-    (rw lt rest.0, rw here.at (best, rest.1))
-  where
-    below : (m n : ℕ) → m < n → nat_lt m n ≡ true
-    below m n h = grind (arith, nat_tests)
-
-    among : (i : ℕ) → is_among (i ∷ order) i ≡ true
-    among i = rw (itself i) refl
-
-    later : (place : ℕ) → is_among order place ≡ true → is_among (i ∷ order) place ≡ true
-    later place is = by_test (nat_eq place i)
-      where
-        by_test : (b : Bool) → (b || is_among order place) ≡ true
-        by_test true = refl
-        by_test false = is
-
-pub order_of : (unaries : List Unary) (start : List ℕ) (t : Settlement) → IsIdle t.waiting → IsSettling unaries t → IsFrom unaries start [] start t → IsOrder unaries start (value_at t.costs) t.order
+pub order_of : (unaries : List Unary) (start : List ℕ) (t : Settlement) → IsIdle t.waiting → IsSettling unaries t → IsFrom unaries [] start t → IsOrder unaries start (value_at t.costs) t.order
 order_of unaries start t idle s from =
     let best = all_best unaries s.level t t.order s.way.settled_by s.way in
     record {

@@ -39,17 +39,17 @@ start_as parts kind relaxed state without t fact is of least =
     (subst (λ (start : List ℕ). IsLeast (λ (n : ℕ). add_round relaxed.unaries start without n fact) (value_at t.costs fact)) (start_numbers parts kind relaxed state is of) least)
 
 pub all_evaluated : (parts : Parts) (kind : CostKind) (relaxed : Lists) (state without : List ℕ) (t : Settlement) → IsRelaxed parts kind relaxed → IsState parts.variables state → IsIdle t.waiting → IsSettling relaxed.unaries t →
-    IsFrom relaxed.unaries (numbers_by relaxed.offsets state ++ relaxed.defaults) without (numbers_by relaxed.offsets state ++ relaxed.defaults) t → IsEvaluatedByNumber parts kind state without t.costs
+    IsFrom relaxed.unaries without (numbers_by relaxed.offsets state ++ relaxed.defaults) t → IsEvaluatedByNumber parts kind state without t.costs
 all_evaluated parts kind relaxed state without t is of idle way from fact =
     start_as parts kind relaxed state without t fact is of (idle_exact relaxed.unaries (numbers_by relaxed.offsets state ++ relaxed.defaults) without t idle way from fact)
 
 pub all_ordered : (parts : Parts) (kind : CostKind) (relaxed : Lists) (state : List ℕ) (t : Settlement) → IsRelaxed parts kind relaxed → IsState parts.variables state → IsIdle t.waiting → IsSettling relaxed.unaries t →
-    IsFrom relaxed.unaries (numbers_by relaxed.offsets state ++ relaxed.defaults) [] (numbers_by relaxed.offsets state ++ relaxed.defaults) t → IsOrder relaxed.unaries (start_facts parts state) (value_at t.costs) t.order
+    IsFrom relaxed.unaries [] (numbers_by relaxed.offsets state ++ relaxed.defaults) t → IsOrder relaxed.unaries (start_facts parts state) (value_at t.costs) t.order
 all_ordered parts kind relaxed state t is of idle way from =
     subst (λ (start : List ℕ). IsOrder relaxed.unaries start (value_at t.costs) t.order) (start_numbers parts kind relaxed state is of) (order_of relaxed.unaries (numbers_by relaxed.offsets state ++ relaxed.defaults) t idle way from)
 
 pub goals_evaluated : (parts : Parts) (kind : CostKind) (relaxed : Lists) (state goals : List ℕ) (t : Settlement) → IsRelaxed parts kind relaxed → IsState parts.variables state → AreSettled goals t → IsSettling relaxed.unaries t →
-    IsFrom relaxed.unaries (numbers_by relaxed.offsets state ++ relaxed.defaults) [] (numbers_by relaxed.offsets state ++ relaxed.defaults) t → (fact : ℕ) → is_among goals fact ≡ true → IsAdd parts kind state [] fact (value_at t.costs fact)
+    IsFrom relaxed.unaries [] (numbers_by relaxed.offsets state ++ relaxed.defaults) t → (fact : ℕ) → is_among goals fact ≡ true → IsAdd parts kind state [] fact (value_at t.costs fact)
 goals_evaluated parts kind relaxed state goals t is of settled way from fact among = start_as parts kind relaxed state [] t fact is of (by_case settled)
   where
     small : (a b : Bool) → a ≡ true → (a && not b) ≡ false → (a && b) ≡ true

@@ -1,7 +1,6 @@
 pub mod Counting
 pub mod Exact
 pub mod Final
-pub mod Goals
 pub mod Growing
 pub mod Ordered
 pub mod Reaching

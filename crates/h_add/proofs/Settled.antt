@@ -1,7 +1,9 @@
 -- One fact is settled, or passed over.
-use Rattle.std.proofs.Common.{◌≡◌, ◌≢◌, ◌∙◌, sym, ap, subst, refl, ℕ, zero, suc, ◌+◌, ◌-◌, ◌*◌, ◌<◌, ◌≤◌, ◌⊎◌, inl, inr, List, [], ◌∷◌, ◌++◌, length, get_or, min, Bool, true, false, nat_eq, nat_lt, nat_le, not, ◌&&◌, arith, Option, Some, None, slice_get, slice_set, get_or-set_other, get_or-set_same}
-use Rattle.std.proofs.lemmas.Bool.Decides.{nat_tests}
-use Rattle.std.proofs.lemmas.List.{length-set}
+use Rattle.std.proofs.Common.{◌≡◌, ◌≢◌, ◌∙◌, sym, ap, subst, refl, ℕ, zero, suc, ◌+◌, ◌-◌, ◌*◌, ◌<◌, ◌≤◌, ◌⊎◌, inl, inr, List, [], ◌∷◌, ◌++◌, length, get_or, min, Bool, true, false, nat_eq, nat_lt, nat_le, not, ◌&&◌, ◌||◌, if◌then◌else◌, arith, Option, Some, None, slice_get, slice_set, get_or-set_other, get_or-set_same}
+use Rattle.std.proofs.lemmas.Bool.{cases_lt, eqb-true, le-leb, or_cases}
+use Rattle.std.proofs.lemmas.List.{length-set, set_past}
+use Rattle.std.proofs.lemmas.List.Folds.{list_any-append}
+use Rattle.std.proofs.lemmas.List.Sums.{sum_by-set}
 use Rattle.cost_queue.specs.Occurrences.{one_if, occurrences}
 use Rattle.cost_queue.specs.Queues.{price_of, IsTaken, waiting_count}
 use Rattle.cost_queue.specs.Laws.{taken_fewer, waiting_within}
@@ -12,7 +14,7 @@ use Rattle.relaxed_task.specs.declared.unary.Unary.{Unary}
 use Rattle.h_add.specs.declared.network.Open.{Open}
 use Rattle.h_add.specs.Settlements.{Settlement, cost_at, is_settled, is_reached, is_left_out, open_at, unsettled}
 use Rattle.h_add.specs.UnderWay.{unreached, paid, IsCounted, IsWaiting, IsWanted, HasSettled, IsUnderWay, left_to_do}
-use Rattle.h_add.proofs.Reaching.{reached_small, unsettled_not, unreached_less, paid_more, is_small}
+use Rattle.h_add.proofs.Reaching.{reached_small, unsettled_not, unreached_less, paid_more, or_false}
 
 -- a fact is settled at a cost, while some number waits no more
 abbrev pub after : Settlement → ℕ → ℕ → List (Option ℕ) → List ℕ → Settlement
@@ -33,7 +35,7 @@ pub reaches : (t : Settlement) (fact cost : ℕ) (waiting : List (Option ℕ)) (
 reaches t fact cost waiting order within in_flags small =
     let cost_is : cost_at (after t fact cost waiting order) fact ≡ cost = get_or-set_same t.costs fact cost 4294967295 within in
     let settled_now : is_settled (after t fact cost waiting order) fact ≡ true = get_or-set_same t.settled fact true false in_flags in
-    let little : nat_le (cost_at (after t fact cost waiting order) fact) 1000000000 ≡ true = ap (λ (n : ℕ). nat_le n 1000000000) cost_is ∙ is_small cost small in
+    let little : nat_le (cost_at (after t fact cost waiting order) fact) 1000000000 ≡ true = ap (λ (n : ℕ). nat_le n 1000000000) cost_is ∙ le-leb cost 1000000000 small in
     record {
       cost_is = cost_is;
       cost_there = λ other ne. get_or-set_other t.costs fact other cost 4294967295 ne;
@@ -179,20 +181,10 @@ same_unary : (unaries : List Unary) (place other : ℕ) (u x : Unary) → slice_
 same_unary unaries place other u x at at_x e = let k : Some x ≡ Some u = sym at_x ∙ (ap (slice_get unaries) (sym e) ∙ at) in cc
 
 pub among_last : (xs : List ℕ) (x y : ℕ) → is_among (xs ++ x ∷ []) y ≡ true → (is_among xs y ≡ true) ⊎ (y ≡ x)
-among_last [] x y is = by_place (places y x) is
-  where
-    by_place : ((y ≡ x) × (nat_eq y x ≡ true)) ⊎ ((y ≢ x) × (nat_eq y x ≡ false)) → is_among (x ∷ []) y ≡ true → (is_among [] y ≡ true) ⊎ (y ≡ x)
-    by_place (inl here) is = inr here.0
-    by_place (inr there) is = let k : false ≡ true = rw there.1 at is in cc
-among_last (z ∷ xs) x y is = by_place (places y z) is (λ rest. among_last xs x y rest)
-  where
-    by_place : ((y ≡ z) × (nat_eq y z ≡ true)) ⊎ ((y ≢ z) × (nat_eq y z ≡ false)) → is_among (z ∷ (xs ++ x ∷ [])) y ≡ true → (is_among (xs ++ x ∷ []) y ≡ true → (is_among xs y ≡ true) ⊎ (y ≡ x)) → (is_among (z ∷ xs) y ≡ true) ⊎ (y ≡ x)
-    by_place (inl here) is rest = inl (rw here.1 refl)
-    by_place (inr there) is rest = later (rest (rw there.1 at is))
-      where
-        later : (is_among xs y ≡ true) ⊎ (y ≡ x) → (is_among (z ∷ xs) y ≡ true) ⊎ (y ≡ x)
-        later (inl among) = inl (rw there.1 among)
-        later (inr same) = inr same
+among_last xs x y is = elim (or_cases (is_among xs y) (nat_eq y x || false) (sym (list_any-append (nat_eq y) xs (x ∷ [])) ∙ is)) [
+  | inl was ↦ inl was
+  | inr last ↦ inr (eqb-true y x (sym (or_false (nat_eq y x)) ∙ last))
+]
 
 -- The unary operator that is taken settles its fact.
 pub given_way : (unaries : List Unary) (level : ℕ) (t : Settlement) (waiting : List (Option ℕ)) (entry : Entry) (u : Unary) (row : List ℕ) → slice_get unaries entry.number ≡ Some u → u.gives < length t.costs → u.gives < length t.settled → IsTaken t.waiting waiting entry → is_settled t u.gives ≡ false →
@@ -239,10 +231,20 @@ passed_way unaries level t waiting entry u at taken old way = record {
     waits = way.waits entry.number entry.price taken.waited
 
 -- what is left to do
+abbrev one_left : Bool → ℕ
+one_left flag = if not flag then 1 else 0
+
 pub fewer_unsettled : (flags : List Bool) (fact : ℕ) → fact < length flags → get_or flags fact false ≡ false → unsettled (slice_set flags fact true) + 1 ≡ unsettled flags
-fewer_unsettled [] fact lt new = absurd (omega arith)
-fewer_unsettled (b ∷ flags) zero lt new = let one : one_if (not b) ≡ 1 = ap (λ (f : Bool). one_if (not f)) new in omega arith
-fewer_unsettled (b ∷ flags) (suc fact) lt new = let rest = fewer_unsettled flags fact (omega arith) new in omega arith
+fewer_unsettled flags fact lt new =
+    let more = sum_by-set one_left flags fact true false lt in
+    let was : one_left (get_or flags fact false) ≡ 1 = ap one_left new in
+    omega (arith, more, was)
+
+pub fewer_or_same : (flags : List Bool) (fact : ℕ) → unsettled (slice_set flags fact true) ≤ unsettled flags
+fewer_or_same flags fact = elim (cases_lt fact (length flags)) [
+  | inl lt ↦ let more = sum_by-set one_left flags fact true false lt in omega (arith, more)
+  | inr past ↦ rw (set_past flags fact true past) (omega arith)
+]
 
 pub passed_less : (t now : Settlement) (entry : Entry) → IsTaken t.waiting now.waiting entry → now.settled ≡ t.settled → length now.waiting ≡ length t.waiting → left_to_do now < left_to_do t
 passed_less t now entry taken settled long =
