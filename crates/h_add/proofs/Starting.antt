@@ -17,6 +17,7 @@ use Rattle.h_add.specs.Networks.{AreFree, IsNeededBy, open_at_start}
 use Rattle.h_add.specs.Orders.{chosen, given_by}
 use Rattle.h_add.specs.Settlements.{Settlement, cost_at, is_settled, is_reached, is_left_out, open_at, unsettled, there_at}
 use Rattle.h_add.specs.UnderWay.{unreached, paid, IsCounted, IsWaiting, IsUnderWay, IsFresh, IsFrom, HasCounted, HasMarked}
+use Rattle.h_add.proofs.Growing.{needed_at}
 use Rattle.h_add.proofs.Ordered.{from_counted, from_settled}
 use Rattle.h_add.proofs.Reaching.{reached_small, unsettled_not, or_true, or_false, and_true}
 use Rattle.h_add.proofs.Settled.{settle_way}
@@ -79,7 +80,7 @@ pub there_way : (unaries : List Unary) (facts : ℕ) (t now : Settlement) (fact 
 there_way unaries facts t now fact row facts_is settled_long within new is needs way =
     subst (λ (s : Settlement). IsUnderWay unaries 0 row s) (sym is)
     (settle_way unaries 0 t fact 0 t.waiting t.order row within (omega arith) new (omega arith) (omega arith) (omega arith) (λ place price at. (at, omega arith)) (λ place u at ne price waits. waits) (λ place among. inl among)
-    (λ place u at. needs place u at ∙ needed_same facts fact u.conds (omega arith)) way)
+    (λ place u at. needed_at unaries facts fact row needs place u at ∙ needed_same facts fact u.conds (omega arith)) way)
 
 -- what is there, and one fact more
 no_order : (unaries : List Unary) (had : List ℕ) (t : Settlement) (f : ℕ) → t.order ≡ [] → is_among (had ++ given_by (chosen unaries t.order)) f ≡ is_among had f

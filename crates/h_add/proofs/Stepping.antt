@@ -11,6 +11,7 @@ use Rattle.h_add.specs.Networks.{needed, IsNeededBy}
 use Rattle.h_add.specs.Settlements.{Settlement, cost_at, is_settled, given_at}
 use Rattle.h_add.specs.UnderWay.{IsUnderWay, IsSettling, IsFrom, IsLater, HasCounted, left_to_do}
 use Rattle.h_add.proofs.Counting.{There, unary_there}
+use Rattle.h_add.proofs.Growing.{needed_at}
 use Rattle.h_add.proofs.Ordered.{from_given, from_passed, from_counted}
 use Rattle.h_add.proofs.Settled.{after, taken_pays, given_way, passed_way, passed_less, settled_less, taken_long}
 
@@ -59,7 +60,7 @@ step_given unaries facts t mid now row fact entry facts_is settled_long waiting_
     let within : u.unary.gives < length t.costs = omega (arith, given) in
     let in_flags : u.unary.gives < length t.settled = omega (arith, given) in
     let as_often : (place : ℕ) (x : Unary) → slice_get unaries place ≡ Some x → occurrences place row ≡ occurrences u.unary.gives x.conds =
-    λ place x at. needs place x at ∙ (needed_same facts fact x.conds below ∙ ap (λ (f : ℕ). occurrences f x.conds) given) in record {
+    λ place x at. needed_at unaries facts fact row needs place x at ∙ (needed_same facts fact x.conds below ∙ ap (λ (f : ℕ). occurrences f x.conds) given) in record {
       way = subst (λ (z : Settlement). IsUnderWay unaries entry.price row z) (sym now_here) (given_way unaries s.level t mid.waiting entry u.unary row u.at within in_flags taken fresh as_often s.way);
       from = λ without had from. subst (λ (z : Settlement). IsFrom unaries without had z) (sym now_here) (from_given unaries without had s.level t mid.waiting entry u.unary u.at within in_flags taken fresh s.way from);
       new = settled_mid t mid fact false mid_is new;

@@ -12,5 +12,4 @@ invariant_of-result c =
       opens_are = rw c.unary-3.ensures.unaries at c.in_ok-opens.ensures;
       needs_are = rw (c.unary-4.ensures.unaries, c.facts.ensures.facts) at c.in_ok-needs.ensures.needs;
       needs_long = rw c.facts.ensures.facts at c.in_ok-needs.ensures.long;
-      needs_within = rw c.unary-4.ensures.unaries at c.in_ok-needs.ensures.within;
     }
