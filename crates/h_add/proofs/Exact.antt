@@ -1,5 +1,15 @@
 -- What is reached costs what it does by the rounds.
-use Rattle.std.proofs.Common.{◌≡◌, ◌≢◌, ◌∙◌, sym, ap, subst, refl, ℕ, zero, suc, ◌+◌, ◌*◌, ◌<◌, ◌≤◌, ◌⊎◌, inl, inr, List, [], ◌∷◌, ◌++◌, length, min, Bool, true, false, nat_eq, nat_le, nat_lt, not, ◌&&◌, ◌||◌, arith, Option, Some, None, slice_get, if◌then◌else◌}
+use Rattle.std.proofs.Common.{◌≡◌, ◌∙◌, ap, subst, ℕ, zero, suc, List, [], ◌∷◌, Bool, true, false, nat_eq, if◌then◌else◌, Some, slice_get, refl, ◌≢◌, sym, ◌+◌, ◌*◌, ◌<◌, ◌≤◌, ◌⊎◌, inl, inr, ◌++◌, length, min, nat_le, nat_lt, not, ◌&&◌, ◌||◌, arith, Option, None, map}
+use Rattle.std.proofs.lemmas.Bool.{eqb-true, false_from_ne_true, leb-true, leb-false, lt-ltb}
+use Rattle.lama_num.specs.declared.estimates.Estimate.{Estimate}
+use Rattle.lama_num.specs.declared.estimates.Estimate.TheVariants.{Finite, Infinite}
+use Rattle.relaxed_task.specs.CostLaws.{price_at_most, price_attained as attained_price}
+use Rattle.relaxed_task.specs.EstimateLaws.{at_most_self, at_most_trans, at_most_infinite, both_at_least, IsCapped, at_most_both}
+use Rattle.relaxed_task.specs.Estimates.{least, IsAtMost, is_finite, IsLeast}
+use Rattle.relaxed_task.specs.Numbers.{over_numbers, is_among, numbers_by, numbers_of, number_by}
+use Rattle.relaxed_task.specs.Relaxing.{least_price, sum_of as total}
+use Rattle.relaxed_task.specs.declared.unary.Unary.{Unary}
+use Rattle.h_add.specs.ByNumber.{is_started, price, add_round, IsAttained, IsClosed, AreBest, IsBest, IsInOrder, start_facts, IsAdd}
 use Rattle.std.specs.List.{list_all}
 use Rattle.std.proofs.lemmas.List.Folds.{list_any-append}
 use Rattle.std.proofs.lemmas.Option.{slice_get_within}
@@ -7,31 +17,64 @@ use Rattle.cost_queue.specs.Occurrences.{occurrences}
 use Rattle.cost_queue.specs.Queues.{price_of, IsIdle}
 use Rattle.lama_num.specs.Estimates.{estimate_sum}
 use Rattle.lama_num.specs.Lists.{both}
-use Rattle.lama_num.specs.declared.estimates.Estimate.{Estimate}
-use Rattle.lama_num.specs.declared.estimates.Estimate.TheVariants.{Finite, Infinite}
-use Rattle.relaxed_task.specs.EstimateLaws.{at_most_self, at_most_trans, at_most_infinite, IsCapped, at_most_both}
-use Rattle.h_add.proofs.Rounds.{closed_is_below, price_attained}
-use Rattle.h_add.proofs.Ordered.{turned}
+use Rattle.h_add.proofs.Steps.{turned}
 use Rattle.relaxed_task.specs.Elements.{denied}
-use Rattle.std.proofs.lemmas.Bool.{eqb-true, false_from_ne_true, leb-true, leb-false, lt-ltb}
 use Rattle.std.proofs.lemmas.List.{append-nil}
-use Rattle.h_add.specs.ByNumber.{IsClosed, AreBest, IsBest, IsInOrder, is_started, add_round, price}
-use Rattle.relaxed_task.specs.Estimates.{is_finite, IsAtMost, IsLeast}
-use Rattle.relaxed_task.specs.Numbers.{is_among}
-use Rattle.relaxed_task.specs.Relaxing.{sum_of as total}
-use Rattle.relaxed_task.specs.declared.unary.Unary.{Unary}
 use Rattle.h_add.specs.Orders.{chosen, given_by, are_places, IsOrder}
 use Rattle.h_add.specs.Settlements.{Settlement, cost_at, is_settled, is_reached, is_left_out, open_at}
-use Rattle.h_add.specs.UnderWay.{unreached, paid, IsCounted, IsWanted, HasSettled, IsUnderWay, IsSettling, IsFrom}
-use Rattle.h_add.specs.Values.{estimate_of, value_at}
+use Rattle.h_add.specs.UnderWay.{unreached, paid, IsCounted, IsWanted, HasSettled, IsUnderWay, IsSettling, IsFrom, AreSettled}
+use Rattle.h_add.specs.Values.{estimate_of, value_at, IsEvaluatedByNumber}
 use Rattle.h_add.proofs.Reaching.{finite_is, infinite_is, reached_small, all_reached, some_unreached, price_paid, total_paid, itself, and_true, or_false}
+use Rattle.sas_task.specs.declared.contents.CostKind.{CostKind}
+use Rattle.sas_task.specs.declared.contents.Fact.{Fact}
+use Rattle.sas_task.specs.declared.contents.Parts.{Parts}
+use Rattle.sas_task.specs.States.{IsState}
+use Rattle.sas_task.specs.WellFormed.{is_fact}
+use Rattle.relaxed_task.specs.declared.relaxation.Lists.{Lists}
+use Rattle.relaxed_task.specs.NumberLaws.{numbers_by-is, state_below, numbers_same, numbers_below, start_numbers}
+use Rattle.relaxed_task.specs.Relaxations.{IsRelaxed}
+use Rattle.h_add.specs.Networks.{are_below}
+
+-- a price is attained where the costs are
+pub price_attained : (unaries : List Unary) (start without : List ℕ) (v : ℕ → Estimate) (i : ℕ) (u : Unary) → slice_get unaries i ≡ Some u → is_among without u.gives ≡ false → IsAttained unaries start without v →
+    (n : ℕ) × IsAtMost (add_round unaries start without n u.gives) (price v u)
+price_attained unaries start without v i u at stays attained = attained_price over_numbers unaries start without v i u at stays attained
+
+below_least : (v w : ℕ → Estimate) (fact : ℕ) (without : List ℕ) (unaries : List Unary) → ((f : ℕ) → IsAtMost (v f) (w f)) → is_among without fact ≡ false → IsClosed unaries without v → IsAtMost (v fact) (least_price over_numbers w fact unaries)
+below_least v w fact without [] le stays closed = at_most_infinite (v fact)
+below_least v w fact without (u ∷ unaries) le stays closed = by_test (nat_eq u.gives fact) refl (below_least v w fact without unaries le stays (λ i. closed (suc i)))
+  where
+    by_test : (b : Bool) → nat_eq u.gives fact ≡ b → IsAtMost (v fact) (least_price over_numbers w fact unaries) →
+        IsAtMost (v fact) (if b then least (price w u) (least_price over_numbers w fact unaries) else least_price over_numbers w fact unaries)
+    by_test true is rest =
+        let same = eqb-true u.gives fact is in
+        let own = at_most_trans (v u.gives) (price v u) (price w u) (closed 0 u refl (ap (is_among without) same ∙ stays)) (price_at_most over_numbers v w u le) in
+        both_at_least (v fact) (price w u) (least_price over_numbers w fact unaries) (subst (λ (f : ℕ). IsAtMost (v f) (price w u)) same own) rest
+    by_test false is rest = rest
+
+-- costs that no unary operator lowers are below all rounds
+pub closed_is_below : (unaries : List Unary) (start without : List ℕ) (v : ℕ → Estimate) → ((fact : ℕ) → is_started start without fact ≡ true → v fact ≡ Finite 0) → IsClosed unaries without v →
+    (n fact : ℕ) → IsAtMost (v fact) (add_round unaries start without n fact)
+closed_is_below unaries start without v first closed zero fact = by_test (is_started start without fact) refl
+  where
+    by_test : (b : Bool) → is_started start without fact ≡ b → IsAtMost (v fact) (if b then Finite 0 else Infinite)
+    by_test true is = rw (first fact is) (at_most_self (Finite 0))
+    by_test false is = at_most_infinite (v fact)
+closed_is_below unaries start without v first closed (suc n) fact = by_test (is_among without fact) refl (closed_is_below unaries start without v first closed n)
+  where
+    by_test : (b : Bool) → is_among without fact ≡ b → ((f : ℕ) → IsAtMost (v f) (add_round unaries start without n f)) →
+        IsAtMost (v fact) (if b then Infinite else least (add_round unaries start without n fact) (least_price over_numbers (add_round unaries start without n) fact unaries))
+    by_test true out before = at_most_infinite (v fact)
+    by_test false stays before =
+        both_at_least (v fact) (add_round unaries start without n fact) (least_price over_numbers (add_round unaries start without n) fact unaries) (before fact)
+        (below_least v (add_round unaries start without n) fact without unaries before stays closed)
 
 -- What is reached costs what it does so far, what is left out is infinite, and all else costs so much.
 abbrev bound : Settlement → Estimate → ℕ → Estimate
 bound t top fact = if is_reached t fact then value_at t.costs fact else (if is_left_out t fact then Infinite else top)
 
 -- all else costs no less, and what is reached no more
-record Parts (t : Settlement) (top : Estimate) : Type 0 where
+record Bounds (t : Settlement) (top : Estimate) : Type 0 where
   capped : IsCapped top
   below : (fact : ℕ) → is_reached t fact ≡ true → IsAtMost (value_at t.costs fact) top
   above : (fact : ℕ) → is_reached t fact ≡ false → is_left_out t fact ≡ false → IsAtMost top (value_at t.costs fact)
@@ -59,7 +102,7 @@ top_below t top fact not_there = by_test (is_reached t fact) (is_left_out t fact
     by_test false true is = at_most_infinite top
     by_test false false is = at_most_self top
 
-below_top : (t : Settlement) (top : Estimate) (fact : ℕ) → Parts t top → is_left_out t fact ≡ false → IsAtMost (bound t top fact) top
+below_top : (t : Settlement) (top : Estimate) (fact : ℕ) → Bounds t top → is_left_out t fact ≡ false → IsAtMost (bound t top fact) top
 below_top t top fact p kept = by_test (is_reached t fact) (is_left_out t fact) refl kept
   where
     by_test : (a b : Bool) → is_reached t fact ≡ a → b ≡ false → IsAtMost (if a then value_at t.costs fact else (if b then Infinite else top)) top
@@ -96,7 +139,7 @@ price_sum unaries level place t u at all way =
     let none = some_unreached (is_reached t) u.conds all in
     (omega (arith, count, none), price_paid t u all ∙ ap (λ (n : ℕ). Finite n) (omega (arith, sum, small)))
 
-closed : (unaries : List Unary) (without : List ℕ) (level : ℕ) (t : Settlement) (top : Estimate) → ((fact : ℕ) → is_left_out t fact ≡ is_among without fact) → Parts t top → IsUnderWay unaries level [] t → IsClosed unaries without (bound t top)
+closed : (unaries : List Unary) (without : List ℕ) (level : ℕ) (t : Settlement) (top : Estimate) → ((fact : ℕ) → is_left_out t fact ≡ is_among without fact) → Bounds t top → IsUnderWay unaries level [] t → IsClosed unaries without (bound t top)
 closed unaries without level t top out p way i u at stays = by_test (list_all (is_reached t) u.conds) refl
   where
     kept : is_left_out t u.gives ≡ false
@@ -196,7 +239,7 @@ first_bound unaries start without t top from fact begins =
     let among : is_among (start ++ given_by (chosen unaries t.order)) fact ≡ true = list_any-append (nat_eq fact) start (given_by (chosen unaries t.order)) ∙ ap (λ (b : Bool). b || is_among (given_by (chosen unaries t.order)) fact) parts.0 in
     let is : is_reached t fact ≡ true = from.reached fact ∙ rw (among, stays) refl in
     reached_bound t top fact is ∙ ap estimate_of (from.first fact parts.0 stays)
-exact_where : (unaries : List Unary) (start without : List ℕ) (level : ℕ) (t : Settlement) (top : Estimate) (fact : ℕ) → bound t top fact ≡ value_at t.costs fact → (n : ℕ) × IsAtMost (add_round unaries start without n fact) (value_at t.costs fact) → Parts t top → IsUnderWay unaries level [] t →
+exact_where : (unaries : List Unary) (start without : List ℕ) (level : ℕ) (t : Settlement) (top : Estimate) (fact : ℕ) → bound t top fact ≡ value_at t.costs fact → (n : ℕ) × IsAtMost (add_round unaries start without n fact) (value_at t.costs fact) → Bounds t top → IsUnderWay unaries level [] t →
     IsFrom unaries without start t → IsLeast (λ n. add_round unaries start without n fact) (value_at t.costs fact)
 exact_where unaries start without level t top fact same a p way from =
     let below : (n : ℕ) → IsAtMost (value_at t.costs fact) (add_round unaries start without n fact) =
@@ -204,7 +247,7 @@ exact_where unaries start without level t top fact same a p way from =
     record { round = a.0; is = at_most_both (add_round unaries start without a.0 fact) (value_at t.costs fact) a.1 (below a.0); least = below }
 
 -- what isn't reached waits for no less than the level, or for nothing
-parts_at : (unaries : List Unary) (level : ℕ) (t : Settlement) → IsUnderWay unaries level [] t → Parts t (Finite level)
+parts_at : (unaries : List Unary) (level : ℕ) (t : Settlement) → IsUnderWay unaries level [] t → Bounds t (Finite level)
 parts_at unaries level t way = record {
   capped = way.level_small;
   below = λ fact is. (let value = finite_is (cost_at t fact) (reached_small t fact is).1 in rw value (way.low fact is));
@@ -257,7 +300,7 @@ idle_exact unaries start without t idle s from fact = exact_where unaries start 
     attained true is = reached_attained unaries start without t fact is s from
     attained false is = (0, rw (idle_infinite unaries t fact idle is s) (at_most_infinite (add_round unaries start without 0 fact)))
 
-    parts : Parts t Infinite
+    parts : Bounds t Infinite
     parts = record {
       capped = tt;
       below = λ f is. at_most_infinite (value_at t.costs f);
@@ -280,3 +323,48 @@ order_of unaries start t idle s from =
 
 pub places_of : (unaries : List Unary) (t : Settlement) → IsSettling unaries t → are_places (length unaries) t.order ≡ true
 places_of unaries t s = (all_best unaries s.level t t.order s.way.settled_by s.way).0
+
+-- the facts that are there at first have numbers of the relaxation
+pub state_numbers_below : (parts : Parts) (kind : CostKind) (relaxed : Lists) (state : List ℕ) → IsRelaxed parts kind relaxed → IsState parts.variables state → are_below relaxed.facts (numbers_by relaxed.offsets state) ≡ true
+state_numbers_below parts kind relaxed state is of = rw (numbers_by-is parts.variables relaxed.offsets state is.offsets of, is.facts) (state_below parts.variables state of)
+
+pub excluded_is : (parts : Parts) (kind : CostKind) (relaxed : Lists) (facts : List Fact) → IsRelaxed parts kind relaxed → list_all (is_fact parts.variables) facts ≡ true → map (number_by relaxed.offsets) facts ≡ numbers_of parts.variables facts
+excluded_is parts kind relaxed facts is all = numbers_same parts.variables relaxed.offsets facts is.offsets all
+
+pub excluded_below : (parts : Parts) (kind : CostKind) (relaxed : Lists) (facts : List Fact) → IsRelaxed parts kind relaxed → list_all (is_fact parts.variables) facts ≡ true → are_below relaxed.facts (map (number_by relaxed.offsets) facts) ≡ true
+excluded_below parts kind relaxed facts is all = rw (excluded_is parts kind relaxed facts is all, is.facts) (numbers_below parts.variables facts all)
+
+-- the numbers of a relaxation
+start_as : (parts : Parts) (kind : CostKind) (relaxed : Lists) (state without : List ℕ) (t : Settlement) (fact : ℕ) → IsRelaxed parts kind relaxed → IsState parts.variables state →
+    IsLeast (λ n. add_round relaxed.unaries (numbers_by relaxed.offsets state ++ relaxed.defaults) without n fact) (value_at t.costs fact) → IsAdd parts kind state without fact (value_at t.costs fact)
+start_as parts kind relaxed state without t fact is of least =
+    subst (λ (us : List Unary). IsLeast (λ (n : ℕ). add_round us (start_facts parts state) without n fact) (value_at t.costs fact)) is.unaries
+    (subst (λ (start : List ℕ). IsLeast (λ (n : ℕ). add_round relaxed.unaries start without n fact) (value_at t.costs fact)) (start_numbers parts kind relaxed state is of) least)
+
+pub all_evaluated : (parts : Parts) (kind : CostKind) (relaxed : Lists) (state without : List ℕ) (t : Settlement) → IsRelaxed parts kind relaxed → IsState parts.variables state → IsIdle t.waiting → IsSettling relaxed.unaries t →
+    IsFrom relaxed.unaries without (numbers_by relaxed.offsets state ++ relaxed.defaults) t → IsEvaluatedByNumber parts kind state without t.costs
+all_evaluated parts kind relaxed state without t is of idle way from fact =
+    start_as parts kind relaxed state without t fact is of (idle_exact relaxed.unaries (numbers_by relaxed.offsets state ++ relaxed.defaults) without t idle way from fact)
+
+pub all_ordered : (parts : Parts) (kind : CostKind) (relaxed : Lists) (state : List ℕ) (t : Settlement) → IsRelaxed parts kind relaxed → IsState parts.variables state → IsIdle t.waiting → IsSettling relaxed.unaries t →
+    IsFrom relaxed.unaries [] (numbers_by relaxed.offsets state ++ relaxed.defaults) t → IsOrder relaxed.unaries (start_facts parts state) (value_at t.costs) t.order
+all_ordered parts kind relaxed state t is of idle way from =
+    subst (λ (start : List ℕ). IsOrder relaxed.unaries start (value_at t.costs) t.order) (start_numbers parts kind relaxed state is of) (order_of relaxed.unaries (numbers_by relaxed.offsets state ++ relaxed.defaults) t idle way from)
+
+pub goals_evaluated : (parts : Parts) (kind : CostKind) (relaxed : Lists) (state goals : List ℕ) (t : Settlement) → IsRelaxed parts kind relaxed → IsState parts.variables state → AreSettled goals t → IsSettling relaxed.unaries t →
+    IsFrom relaxed.unaries [] (numbers_by relaxed.offsets state ++ relaxed.defaults) t → (fact : ℕ) → is_among goals fact ≡ true → IsAdd parts kind state [] fact (value_at t.costs fact)
+goals_evaluated parts kind relaxed state goals t is of settled way from fact among = start_as parts kind relaxed state [] t fact is of (by_case settled)
+  where
+    small : (a b : Bool) → a ≡ true → (a && not b) ≡ false → (a && b) ≡ true
+    small true true is out = refl
+    small true false is out = let k : true ≡ false = out in cc
+    small false b is out = is
+
+    by_case : AreSettled goals t → IsLeast (λ n. add_round relaxed.unaries (numbers_by relaxed.offsets state ++ relaxed.defaults) [] n fact) (value_at t.costs fact)
+    by_case (inl all) =
+        reached_exact relaxed.unaries (numbers_by relaxed.offsets state ++ relaxed.defaults) [] t fact (small (is_settled t fact) (nat_le (cost_at t fact) 1000000000) (all fact among) (from.out fact)) way from
+    by_case (inr idle) = idle_exact relaxed.unaries (numbers_by relaxed.offsets state ++ relaxed.defaults) [] t idle way from fact
+
+-- nothing is left out where no facts are given
+pub none_excluded : (offsets : List ℕ) (facts : List Fact) (n : ℕ) → facts ≡ [] → are_below n (map (number_by offsets) facts) ≡ true
+none_excluded offsets facts n none = rw none refl

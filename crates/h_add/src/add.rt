@@ -56,24 +56,17 @@ impl Model for Add {
     ghost invariant = { λ a. IsReady a.network a.settling };
 }
 
-/// The evaluator over a relaxation.
-fn evaluator(alloc: Global, relaxed: Relaxed) -> Result<Add, NoMemory>
-    ensures { IfOk result (λ add. add.relaxed ≡ relaxed) }
-{
-    let facts = relaxed.facts() as usize;
-    let unaries = relaxed.unary().len();
-    let network = Network::new(alloc, relaxed)?;
-    let settling = Settling::new(alloc, facts, unaries)?;
-    Ok(Add { network, settling })
-}
-
 impl Add {
     /// The evaluator of a task, with operators that cost what a kind of cost says.
     pub fn new(alloc: Global, task: &Task, kind: CostKind) -> Result<Add, NoMemory>
         ensures { IfOk result (λ add. IsRelaxed task.now kind add.relaxed) }
     {
         let relaxed = Relaxed::new(alloc, task, kind)?;
-        evaluator(alloc, relaxed)
+        let facts = relaxed.facts() as usize;
+        let unaries = relaxed.unary().len();
+        let network = Network::new(alloc, relaxed)?;
+        let settling = Settling::new(alloc, facts, unaries)?;
+        Ok(Add { network, settling })
     }
 
     /// The relaxation of the task.

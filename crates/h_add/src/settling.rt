@@ -1,6 +1,6 @@
 // Facts are settled one after the other, the cheapest first.
 ghost use Rattle.std.specs.Prelude.{◌≡◌, ◌+◌, ◌≤◌, ◌<◌, ◌∷◌, ◌++◌, [], ℕ, List, length, true};
-ghost use Rattle.std.specs.Prelude.{false, replicate, slice_set, Some, None, IfOk, IsTrue};
+ghost use Rattle.std.specs.Prelude.{false, slice_set, Some, None, IfOk, IsTrue};
 ghost use Rattle.std.specs.Prelude.{MatchOption};
 ghost use Rattle.std.specs.Bool.{OnTrue, OnFalse};
 ghost use Rattle.cost_queue.specs.Queues.{price_of, IsPopped, IsIdle};
@@ -50,24 +50,6 @@ impl Model for Settling {
         s.order.items (vec_capacity s.order) };
 }
 
-fn no_opens(alloc: Global, unaries: usize) -> Result<Vec<Open>, AllocError>
-    ensures { IfOk result (λ v. length v.items ≡ unaries) }
-{
-    vec![in alloc; Open { count: 0, sum: 0 }; unaries]
-}
-
-fn no_costs(alloc: Global, facts: usize) -> Result<Vec<u32>, AllocError>
-    ensures { IfOk result (λ v. length v.items ≡ facts) }
-{
-    vec![in alloc; INFINITE; facts]
-}
-
-fn no_flags(alloc: Global, facts: usize) -> Result<Vec<bool>, AllocError>
-    ensures { IfOk result (λ v. v.items ≡ replicate facts false) }
-{
-    vec![in alloc; false; facts]
-}
-
 impl Settling {
     /// Room for so many facts and unary operators.
     pub fn new(alloc: Global, facts: usize, unaries: usize) -> Result<Settling, AllocError>
@@ -75,9 +57,9 @@ impl Settling {
         ensures unaries { IfOk result (λ s. length s.opens ≡ unaries) }
         ensures order { IfOk result (λ s. s.order ≡ []) }
     {
-        let costs = no_costs(alloc, facts)?;
-        let settled = no_flags(alloc, facts)?;
-        let opens = no_opens(alloc, unaries)?;
+        let costs = vec![in alloc; INFINITE; facts]?;
+        let settled = vec![in alloc; false; facts]?;
+        let opens = vec![in alloc; Open { count: 0, sum: 0 }; unaries]?;
         let queue = CostQueue::new(alloc, unaries)?;
         let order = Vec::with_capacity(alloc, facts)?;
         Ok(Settling {

@@ -1,6 +1,6 @@
 use Rattle.std.proofs.Common.{true, arith}
 use Rattle.std.proofs.lemmas.List.{length-set}
-use Rattle.h_add.proofs.Settled.{fewer_or_same}
+use Rattle.h_add.proofs.Steps.{fewer_or_same}
 use Rattle.h_add.proofs.settling.Settling.be_there.Goals as goal
 
 pub invariant_of-self : goal.invariant_of-self

@@ -2,8 +2,7 @@ use Rattle.std.proofs.Common.{◌≡◌, ◌∙◌, sym, subst, ℕ, List, ◌++
 use Rattle.relaxed_task.specs.Numbers.{numbers_by}
 use Rattle.h_add.specs.Networks.{are_below}
 use Rattle.h_add.specs.UnderWay.{IsFrom}
-use Rattle.h_add.proofs.Ordered.{from_counted}
-use Rattle.h_add.proofs.Starting.{fresh_way, fresh_from}
+use Rattle.h_add.proofs.Steps.{from_counted, fresh_way, fresh_from}
 use Rattle.h_add.proofs.settling.Settling.begin.Goals as goal
 
 pub walk-requires-clause-way : goal.walk-requires-clause-way

@@ -1,7 +1,7 @@
 use Rattle.std.proofs.Common.{◌≡◌, ◌≤◌, ◌<◌, ◌∙◌, ap, subst, sym, false, true, get_or, ◌+◌, length, arith, length-append, [], ◌∷◌}
 use Rattle.std.proofs.lemmas.List.{length-set}
 use Rattle.h_add.specs.Settlements.{Settlement, is_settled}
-use Rattle.h_add.proofs.Settled.{fewer_unsettled}
+use Rattle.h_add.proofs.Steps.{fewer_unsettled}
 use Rattle.h_add.proofs.settling.Settling.give.Goals as goal
 
 pub unreachable-requires : goal.unreachable-requires

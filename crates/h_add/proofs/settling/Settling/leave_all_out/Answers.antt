@@ -3,7 +3,7 @@ use Rattle.std.proofs.lemmas.List.{get_or-map, length-map, take_all}
 use Rattle.relaxed_task.specs.Numbers.{number_by, is_among}
 use Rattle.h_add.specs.Settlements.{is_settled}
 use Rattle.h_add.proofs.Growing.{below_at}
-use Rattle.h_add.proofs.Starting.{out_more}
+use Rattle.h_add.proofs.Steps.{out_more}
 use Rattle.h_add.proofs.settling.Settling.leave_all_out.Goals as goal
 
 pub loop-fact-init : goal.loop-fact-init

@@ -1,6 +1,6 @@
 use Rattle.std.proofs.Common.{◌++◌, ◌∷◌, [], subst, sym, arith}
 use Rattle.h_add.specs.Settlements.{Settlement}
-use Rattle.h_add.proofs.Starting.{there_way, there_marked, old_marked}
+use Rattle.h_add.proofs.Steps.{there_way, there_marked, old_marked}
 use Rattle.h_add.proofs.settling.Settling.mark.Goals as goal
 
 pub walk-requires-clause-way : goal.walk-requires-clause-way

@@ -1,5 +1,5 @@
 use Rattle.std.proofs.Common.{◌∙◌, sym, refl, arith}
-use Rattle.h_add.proofs.Starting.{none_marked, taken_marked, all_marked}
+use Rattle.h_add.proofs.Steps.{none_marked, taken_marked, all_marked}
 use Rattle.h_add.proofs.settling.Settling.mark_all.Goals as goal
 
 pub loop-fact-init : goal.loop-fact-init

@@ -1,7 +1,7 @@
 use Rattle.std.proofs.Common.{◌∙◌, sym, arith}
 use Rattle.relaxed_task.specs.Numbers.{numbers_by}
 use Rattle.relaxed_task.specs.NumberLaws.{long_numbers, number_at}
-use Rattle.h_add.proofs.Starting.{none_marked, taken_marked, all_marked}
+use Rattle.h_add.proofs.Steps.{none_marked, taken_marked, all_marked}
 use Rattle.h_add.proofs.settling.Settling.mark_state.Goals as goal
 
 pub loop-var-init : goal.loop-var-init

@@ -1,4 +1,4 @@
-use Rattle.h_add.proofs.Stepping.{later_more, now_later}
+use Rattle.h_add.proofs.Steps.{later_more, now_later}
 use Rattle.h_add.proofs.settling.Settling.settle_all.Goals as goal
 
 pub steps-init : goal.steps-init

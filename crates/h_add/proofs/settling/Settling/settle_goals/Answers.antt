@@ -2,8 +2,7 @@ use Rattle.std.proofs.Common.{◌≡◌, ◌<◌, ◌∙◌, ◌++◌, ◌∷◌
 use Rattle.std.proofs.lemmas.List.{take_more, take_all}
 use Rattle.relaxed_task.specs.Numbers.{is_among}
 use Rattle.h_add.specs.Settlements.{Settlement, is_settled}
-use Rattle.h_add.proofs.Settled.{among_last}
-use Rattle.h_add.proofs.Stepping.{later_more, now_later}
+use Rattle.h_add.proofs.Steps.{among_last, later_more, now_later}
 use Rattle.h_add.proofs.settling.Settling.settle_goals.Goals as goal
 
 settled_more : (facts : List ℕ) (k fact : ℕ) (t now : Settlement) → k < length facts → fact ≡ get_or facts k 0 → ((other : ℕ) → is_among (take k facts) other ≡ true → is_settled t other ≡ true) → ((other : ℕ) → is_settled t other ≡ true → is_settled now other ≡ true) →
