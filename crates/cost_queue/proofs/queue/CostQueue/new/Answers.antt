@@ -1,5 +1,5 @@
 use Rattle.std.proofs.Common.{rules, ◌≡◌, refl, None, replicate, arith}
-use Rattle.cost_queue.proofs.Whole.{none_waiting, stands_for}
+use Rattle.cost_queue.proofs.Keeping.{none_waiting, stands_for}
 use Rattle.cost_queue.proofs.queue.CostQueue.new.Goals as goal
 
 pub invariant_of-result : goal.invariant_of-result

@@ -1,6 +1,6 @@
 use Rattle.std.proofs.Common.{rules, ◌≡◌, ◌<◌, refl, None, length, slice_set, arith}
 use Rattle.cost_queue.specs.Laws.{there}
-use Rattle.cost_queue.proofs.Whole.{are_long, taken_low, popped_low, all_high, stands_for}
+use Rattle.cost_queue.proofs.Keeping.{are_long, taken_low, popped_low, all_high, stands_for}
 use Rattle.cost_queue.proofs.queue.CostQueue.pop_low.Goals as goal
 
 pub first_low-requires-clause-within : goal.first_low-requires-clause-within

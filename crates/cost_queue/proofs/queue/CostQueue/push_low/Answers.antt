@@ -1,7 +1,7 @@
 use Rattle.std.proofs.Common.{rules, ◌≡◌, ◌<◌, ◌∙◌, None, Some, length, slice_set, get_or, arith}
 use Rattle.std.proofs.lemmas.List.{get_or_default}
 use Rattle.cost_queue.specs.Queues.{price_of}
-use Rattle.cost_queue.proofs.Whole.{are_long, pushed_low, stands_for}
+use Rattle.cost_queue.proofs.Keeping.{are_long, pushed_low, stands_for}
 use Rattle.cost_queue.proofs.queue.CostQueue.push_low.Goals as goal
 
 pub index-requires : goal.index-requires
