@@ -3,7 +3,7 @@ use Rattle.std.proofs.Common.{◌≡◌, ◌∙◌, ap, subst, ℕ, zero, suc, L
 use Rattle.std.proofs.lemmas.Bool.{eqb-true, false_from_ne_true, leb-true, leb-false, lt-ltb}
 use Rattle.lama_num.specs.declared.estimates.Estimate.{Estimate}
 use Rattle.lama_num.specs.declared.estimates.Estimate.TheVariants.{Finite, Infinite}
-use Rattle.relaxed_task.specs.CostLaws.{price_at_most, price_attained as attained_price}
+use Rattle.relaxed_task.specs.CostLaws.{price_at_most, price_attained}
 use Rattle.relaxed_task.specs.EstimateLaws.{at_most_self, at_most_trans, at_most_infinite, both_at_least, IsCapped, at_most_both}
 use Rattle.relaxed_task.specs.Estimates.{least, IsAtMost, is_finite, IsLeast}
 use Rattle.relaxed_task.specs.Numbers.{over_numbers, is_among, numbers_by, numbers_of, number_by}
@@ -32,13 +32,9 @@ use Rattle.sas_task.specs.States.{IsState}
 use Rattle.sas_task.specs.WellFormed.{is_fact}
 use Rattle.relaxed_task.specs.declared.relaxation.Lists.{Lists}
 use Rattle.relaxed_task.specs.NumberLaws.{numbers_by-is, state_below, numbers_same, numbers_below, start_numbers}
+use Rattle.relaxed_task.specs.PlanLaws.{all_has}
 use Rattle.relaxed_task.specs.Relaxations.{IsRelaxed}
 use Rattle.h_add.specs.Networks.{are_below}
-
--- a price is attained where the costs are
-pub price_attained : (unaries : List Unary) (start without : List ℕ) (v : ℕ → Estimate) (i : ℕ) (u : Unary) → slice_get unaries i ≡ Some u → is_among without u.gives ≡ false → IsAttained unaries start without v →
-    (n : ℕ) × IsAtMost (add_round unaries start without n u.gives) (price v u)
-price_attained unaries start without v i u at stays attained = attained_price over_numbers unaries start without v i u at stays attained
 
 below_least : (v w : ℕ → Estimate) (fact : ℕ) (without : List ℕ) (unaries : List Unary) → ((f : ℕ) → IsAtMost (v f) (w f)) → is_among without fact ≡ false → IsClosed unaries without v → IsAtMost (v fact) (least_price over_numbers w fact unaries)
 below_least v w fact without [] le stays closed = at_most_infinite (v fact)
@@ -210,7 +206,7 @@ attained_in unaries start without v have (u ∷ list) outside order best so fact
     price_is = ap (λ (e : Estimate). estimate_sum (Finite u.cost) e) (sum_same w v (is_among have) u.conds (λ f is. rw is refl) order.0) ∙ best.0.pays
 
     gives : (n : ℕ) × IsAtMost (add_round unaries start without n u.gives) (v u.gives)
-    gives = let a = price_attained unaries start without w best.0.place u best.0.at stays (λ f. each f (is_among have f) refl) in (a.0, rw price_is at a.1)
+    gives = let a = price_attained over_numbers unaries start without w best.0.place u best.0.at stays (λ f. each f (is_among have f) refl) in (a.0, rw price_is at a.1)
 
     more : (f : ℕ) (b : Bool) → is_among have f ≡ b → is_among (u.gives ∷ have) f ≡ true → (n : ℕ) × IsAtMost (add_round unaries start without n f) (v f)
     more f true is among = so f is
@@ -362,7 +358,7 @@ goals_evaluated parts kind relaxed state goals t is of settled way from fact amo
 
     by_case : AreSettled goals t → IsLeast (λ n. add_round relaxed.unaries (numbers_by relaxed.offsets state ++ relaxed.defaults) [] n fact) (value_at t.costs fact)
     by_case (inl all) =
-        reached_exact relaxed.unaries (numbers_by relaxed.offsets state ++ relaxed.defaults) [] t fact (small (is_settled t fact) (nat_le (cost_at t fact) 1000000000) (all fact among) (from.out fact)) way from
+        reached_exact relaxed.unaries (numbers_by relaxed.offsets state ++ relaxed.defaults) [] t fact (small (is_settled t fact) (nat_le (cost_at t fact) 1000000000) (all_has over_numbers (is_settled t) goals fact all among) (from.out fact)) way from
     by_case (inr idle) = idle_exact relaxed.unaries (numbers_by relaxed.offsets state ++ relaxed.defaults) [] t idle way from fact
 
 -- nothing is left out where no facts are given

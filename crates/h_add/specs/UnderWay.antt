@@ -116,4 +116,4 @@ left_to_do t = unsettled t.settled * (length t.waiting + 1) + waiting_count t.wa
 
 -- some facts are settled, or none waits
 abbrev pub AreSettled : List ℕ → Settlement → Type 0
-AreSettled facts t = ((fact : ℕ) → is_among facts fact ≡ true → is_settled t fact ≡ true) ⊎ IsIdle t.waiting
+AreSettled facts t = (list_all (is_settled t) facts ≡ true) ⊎ IsIdle t.waiting
