@@ -1,4 +1,4 @@
-use Rattle.std.proofs.Common.{rules, ◌≡◌, refl, None, replicate, arith}
+use Rattle.std.proofs.Common.{rules, refl, None, replicate, arith}
 use Rattle.cost_queue.proofs.Keeping.{none_waiting, stands_for}
 use Rattle.cost_queue.proofs.queue.CostQueue.new.Goals as goal
 

@@ -1,4 +1,4 @@
-use Rattle.std.proofs.Common.{rules, ◌≡◌, ◌∙◌, refl, ap, List, ℕ, Option, Some, ◌≤◌}
+use Rattle.std.proofs.Common.{rules, ◌≡◌, refl, ℕ, Some, ◌≤◌}
 use Rattle.cost_queue.specs.Queues.{price_of}
 use Rattle.cost_queue.proofs.Keeping.{left, popped_high, taken_high, none_left, stands_for}
 use Rattle.cost_queue.proofs.queue.CostQueue.pop_high.Goals as goal

@@ -1,4 +1,4 @@
-use Rattle.std.proofs.Common.{rules, ◌≡◌, ◌<◌, None, Some, length, slice_set, refl}
+use Rattle.std.proofs.Common.{rules, ◌≡◌, ◌<◌, None, Some, length, slice_set}
 use Rattle.cost_queue.specs.Queues.{price_of}
 use Rattle.cost_queue.proofs.Keeping.{pushed_high, has_place, stands_for}
 use Rattle.cost_queue.proofs.queue.CostQueue.push_high.Goals as goal
