@@ -235,6 +235,7 @@ first_bound unaries start without t top from fact begins =
     let among : is_among (start ++ given_by (chosen unaries t.order)) fact ≡ true = list_any-append (nat_eq fact) start (given_by (chosen unaries t.order)) ∙ ap (λ (b : Bool). b || is_among (given_by (chosen unaries t.order)) fact) parts.0 in
     let is : is_reached t fact ≡ true = from.reached fact ∙ rw (among, stays) refl in
     reached_bound t top fact is ∙ ap estimate_of (from.first fact parts.0 stays)
+
 exact_where : (unaries : List Unary) (start without : List ℕ) (level : ℕ) (t : Settlement) (top : Estimate) (fact : ℕ) → bound t top fact ≡ value_at t.costs fact → (n : ℕ) × IsAtMost (add_round unaries start without n fact) (value_at t.costs fact) → Bounds t top → IsUnderWay unaries level [] t →
     IsFrom unaries without start t → IsLeast (λ n. add_round unaries start without n fact) (value_at t.costs fact)
 exact_where unaries start without level t top fact same a p way from =

@@ -53,9 +53,9 @@ pushed : (xs : List ℕ) (y k i : ℕ) → length xs ≡ k → get_or xs i 0 + (
 pushed xs y k i long = elim (cases_order i k) [
   | inl same ↦ let was = get_or_past xs i 0 (omega arith) in let now = get_or_push xs y 0 i (long ∙ sym same) in rw (eq-eqb i k same) (omega (arith, was, now))
   | inr apart ↦ rw (ne_eqb i k (λ e. absurd (omega arith))) (elim apart [
-      | inl lt ↦ let kept = get_or_append_left xs (y ∷ []) 0 i (omega arith) in omega (arith, kept)
-      | inr gt ↦ let was = get_or_past xs i 0 (omega arith) in let longer = length_push xs y in let now = get_or_past (xs ++ y ∷ []) i 0 (omega (arith, longer)) in omega (arith, was, now)
-    ])
+    | inl lt ↦ let kept = get_or_append_left xs (y ∷ []) 0 i (omega arith) in omega (arith, kept)
+    | inr gt ↦ let was = get_or_past xs i 0 (omega arith) in let longer = length_push xs y in let now = get_or_past (xs ++ y ∷ []) i 0 (omega (arith, longer)) in omega (arith, was, now)
+  ])
 ]
 
 pub needed_more : (unaries : List Unary) (always k : ℕ) (u : Unary) (old new : List (List ℕ)) → k < length unaries → u ≡ get_or unaries k u → Listed old new (needed always u.conds) k → IsNeeds (take k unaries) always old → IsNeeds (take (k + 1) unaries) always new
