@@ -11,7 +11,7 @@ use Rattle.relaxed_task.specs.Numbers.{is_among}
 use Rattle.relaxed_task.specs.declared.unary.Unary.{Unary}
 use Rattle.h_add.specs.declared.network.Open.{Open}
 use Rattle.h_add.specs.Settlements.{Settlement, cost_at, is_settled, is_reached, is_left_out, open_at, less_open, counted, offered}
-use Rattle.h_add.specs.UnderWay.{unreached, paid, IsCounted, IsWaiting, IsWanted, HasSettled, IsUnderWay, HasCounted}
+use Rattle.h_add.specs.UnderWay.{unreached, IsCounted, IsWaiting, IsWanted, IsUnderWay, HasCounted}
 use Rattle.h_add.proofs.Reaching.{reached_small, reached_same, paid_same, itself, and_true}
 
 -- there is a unary operator at a place within

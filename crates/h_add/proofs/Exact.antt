@@ -1,5 +1,5 @@
 -- What is reached costs what it does by the rounds.
-use Rattle.std.proofs.Common.{◌≡◌, ◌∙◌, ap, subst, ℕ, zero, suc, List, [], ◌∷◌, Bool, true, false, nat_eq, if◌then◌else◌, Some, slice_get, refl, ◌≢◌, sym, ◌+◌, ◌*◌, ◌<◌, ◌≤◌, ◌⊎◌, inl, inr, ◌++◌, length, min, nat_le, nat_lt, not, ◌&&◌, ◌||◌, arith, Option, None, map}
+use Rattle.std.proofs.Common.{◌≡◌, ◌∙◌, ap, subst, ℕ, zero, suc, List, [], ◌∷◌, Bool, true, false, nat_eq, if◌then◌else◌, Some, slice_get, refl, sym, ◌≤◌, inl, inr, ◌++◌, length, nat_le, nat_lt, not, ◌&&◌, ◌||◌, arith, None, map}
 use Rattle.std.proofs.lemmas.Bool.{eqb-true, false_from_ne_true, leb-true, leb-false, lt-ltb}
 use Rattle.lama_num.specs.declared.estimates.Estimate.{Estimate}
 use Rattle.lama_num.specs.declared.estimates.Estimate.TheVariants.{Finite, Infinite}
@@ -9,12 +9,11 @@ use Rattle.relaxed_task.specs.Estimates.{least, IsAtMost, is_finite, IsLeast}
 use Rattle.relaxed_task.specs.Numbers.{over_numbers, is_among, numbers_by, numbers_of, number_by}
 use Rattle.relaxed_task.specs.Relaxing.{least_price, sum_of as total}
 use Rattle.relaxed_task.specs.declared.unary.Unary.{Unary}
-use Rattle.h_add.specs.ByNumber.{is_started, price, add_round, IsAttained, IsClosed, AreBest, IsBest, IsInOrder, start_facts, IsAdd}
+use Rattle.h_add.specs.ByNumber.{is_started, price, add_round, IsClosed, AreBest, IsBest, IsInOrder, start_facts, IsAdd}
 use Rattle.std.specs.List.{list_all}
 use Rattle.std.proofs.lemmas.List.Folds.{list_any-append}
 use Rattle.std.proofs.lemmas.Option.{slice_get_within}
-use Rattle.cost_queue.specs.Occurrences.{occurrences}
-use Rattle.cost_queue.specs.Queues.{price_of, IsIdle}
+use Rattle.cost_queue.specs.Queues.{IsIdle}
 use Rattle.lama_num.specs.Estimates.{estimate_sum}
 use Rattle.lama_num.specs.Lists.{both}
 use Rattle.h_add.proofs.Steps.{turned}
@@ -22,9 +21,9 @@ use Rattle.relaxed_task.specs.Elements.{denied}
 use Rattle.std.proofs.lemmas.List.{append-nil}
 use Rattle.h_add.specs.Orders.{chosen, given_by, are_places, IsOrder}
 use Rattle.h_add.specs.Settlements.{Settlement, cost_at, is_settled, is_reached, is_left_out, open_at}
-use Rattle.h_add.specs.UnderWay.{unreached, paid, IsCounted, IsWanted, HasSettled, IsUnderWay, IsSettling, IsFrom, AreSettled}
+use Rattle.h_add.specs.UnderWay.{HasSettled, IsUnderWay, IsSettling, IsFrom, AreSettled}
 use Rattle.h_add.specs.Values.{estimate_of, value_at, IsEvaluatedByNumber}
-use Rattle.h_add.proofs.Reaching.{finite_is, infinite_is, reached_small, all_reached, some_unreached, price_paid, total_paid, itself, and_true, or_false}
+use Rattle.h_add.proofs.Reaching.{finite_is, infinite_is, reached_small, all_reached, some_unreached, price_paid, itself, and_true, or_false}
 use Rattle.sas_task.specs.declared.contents.CostKind.{CostKind}
 use Rattle.sas_task.specs.declared.contents.Fact.{Fact}
 use Rattle.sas_task.specs.declared.contents.Parts.{Parts}

@@ -1,5 +1,5 @@
 -- What is reached, counted and paid.
-use Rattle.std.proofs.Common.{◌≡◌, ◌≢◌, ◌∙◌, sym, ap, subst, refl, ℕ, zero, suc, ◌+◌, ◌*◌, ◌<◌, ◌≤◌, ◌⊎◌, inl, inr, List, [], ◌∷◌, length, get_or, min, Bool, true, false, nat_eq, nat_le, not, ◌&&◌, ◌||◌, arith, slice_set, get_or-set_other, get_or-set_same}
+use Rattle.std.proofs.Common.{◌≡◌, ◌≢◌, ◌∙◌, sym, ap, refl, ℕ, ◌+◌, ◌*◌, ◌<◌, ◌≤◌, ◌⊎◌, inl, inr, List, [], ◌∷◌, get_or, min, Bool, true, false, nat_eq, nat_le, not, ◌&&◌, ◌||◌, arith}
 use Rattle.std.specs.List.{list_all}
 use Rattle.std.proofs.lemmas.Bool.{eq-eqb, le-leb, lt-leb, leb-true}
 use Rattle.cost_queue.specs.Occurrences.{one_if, occurrences}

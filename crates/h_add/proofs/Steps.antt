@@ -1,11 +1,11 @@
 -- One fact after the other is settled, or passed over.
-use Rattle.std.proofs.Common.{◌≡◌, ◌≢◌, ◌∙◌, sym, ap, subst, refl, ℕ, zero, suc, ◌+◌, ◌-◌, ◌*◌, ◌<◌, ◌≤◌, ◌⊎◌, inl, inr, List, [], ◌∷◌, ◌++◌, length, get_or, min, Bool, true, false, nat_eq, nat_lt, nat_le, not, ◌&&◌, ◌||◌, if◌then◌else◌, arith, Option, Some, None, slice_get, slice_set, get_or-set_other, get_or-set_same, map, append_assoc, max, take}
+use Rattle.std.proofs.Common.{◌≡◌, ◌≢◌, ◌∙◌, sym, ap, subst, refl, ℕ, zero, suc, ◌+◌, ◌*◌, ◌<◌, ◌≤◌, ◌⊎◌, inl, inr, List, [], ◌∷◌, ◌++◌, length, get_or, min, Bool, true, false, nat_eq, nat_lt, nat_le, not, ◌&&◌, ◌||◌, if◌then◌else◌, arith, Option, Some, None, slice_get, slice_set, get_or-set_other, get_or-set_same, append_assoc, max, take}
 use Rattle.std.proofs.lemmas.Bool.{cases_lt, eqb-true, le-leb, or_cases, lt-leb, ltb-true}
 use Rattle.std.proofs.lemmas.List.{length-set, set_past, map-append, append-nil, set-get_or, take_more, take_all, get_or-map, length-map}
 use Rattle.std.proofs.lemmas.List.Folds.{list_any-append, list_any_more, list_all-append}
 use Rattle.std.proofs.lemmas.List.Sums.{sum_by-set}
 use Rattle.cost_queue.specs.Occurrences.{one_if, occurrences}
-use Rattle.cost_queue.specs.Queues.{price_of, IsTaken, waiting_count}
+use Rattle.cost_queue.specs.Queues.{price_of, IsTaken}
 use Rattle.cost_queue.specs.Laws.{taken_fewer, waiting_within, there}
 use Rattle.cost_queue.specs.declared.entry.Entry.{Entry}
 use Rattle.relaxed_task.specs.Elements.{places, join}
@@ -13,22 +13,17 @@ use Rattle.relaxed_task.specs.Numbers.{is_among, is_below}
 use Rattle.relaxed_task.specs.declared.unary.Unary.{Unary}
 use Rattle.h_add.specs.declared.network.Open.{Open}
 use Rattle.h_add.specs.Settlements.{Settlement, cost_at, is_settled, is_reached, is_left_out, open_at, unsettled, given_at, there_at}
-use Rattle.h_add.specs.UnderWay.{unreached, paid, IsCounted, IsWaiting, IsWanted, HasSettled, IsUnderWay, left_to_do, IsOut, IsFrom, HasCounted, IsSettling, IsLater, IsFresh, HasMarked}
+use Rattle.h_add.specs.UnderWay.{unreached, paid, IsCounted, IsWaiting, IsWanted, HasSettled, IsUnderWay, left_to_do, IsFrom, HasCounted, IsSettling, IsLater, IsFresh, HasMarked}
 use Rattle.h_add.proofs.Reaching.{reached_small, unsettled_not, unreached_less, paid_more, or_false, reached_same, all_reached, and_true, or_true}
-use Rattle.std.specs.List.{list_all, filter_map}
+use Rattle.std.specs.List.{list_all}
 use Rattle.std.proofs.Math.Path.{fun_ext}
-use Rattle.std.proofs.lemmas.List.Elements.{filter_map-append}
 use Rattle.std.proofs.lemmas.Option.{slice_get_within, get_or_from_slice_get}
 use Rattle.lama_num.specs.Lists.{both}
-use Rattle.h_add.specs.ByNumber.{IsInOrder, AreBest, IsBest, IsAttained, price}
-use Rattle.lama_num.specs.declared.estimates.Estimate.{Estimate}
-use Rattle.lama_num.specs.declared.estimates.Estimate.TheVariants.{Finite, Infinite}
-use Rattle.relaxed_task.specs.Estimates.{is_finite}
-use Rattle.h_add.specs.Orders.{chosen, given_by, are_places, IsOrder}
-use Rattle.h_add.specs.Values.{estimate_of, value_at}
+use Rattle.h_add.specs.ByNumber.{IsInOrder, price}
+use Rattle.h_add.specs.Orders.{chosen, given_by}
 use Rattle.h_add.specs.Laws.{chosen_grows}
 use Rattle.h_add.specs.Networks.{needed, IsNeededBy, AreFree, open_at_start}
-use Rattle.h_add.proofs.Counting.{There, unary_there}
+use Rattle.h_add.proofs.Counting.{unary_there}
 use Rattle.h_add.proofs.Growing.{needed_at}
 
 -- a fact is settled at a cost, while some number waits no more

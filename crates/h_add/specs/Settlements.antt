@@ -1,7 +1,6 @@
 -- An evaluation under way: what facts cost so far, and which of them are settled.
-use Rattle.std.specs.Prelude.{◌≡◌, ℕ, ◌+◌, ◌-◌, ◌≤◌, List, [], ◌∷◌, ◌++◌, length, min, Bool, true, false, not, ◌&&◌, nat_eq, nat_lt, nat_le, Option, Some, None, slice_get, slice_index, slice_index_or, slice_set, map, if◌then◌else◌}
+use Rattle.std.specs.Prelude.{◌≡◌, ℕ, ◌+◌, ◌-◌, ◌≤◌, List, [], ◌∷◌, ◌++◌, length, min, Bool, true, false, not, ◌&&◌, nat_lt, nat_le, Option, Some, slice_index, slice_index_or, slice_set, if◌then◌else◌}
 use Rattle.std.specs.List.{count_by}
-use Rattle.relaxed_task.specs.declared.unary.Unary.{Unary}
 use Rattle.h_add.specs.declared.network.Open.{Open}
 
 -- For each fact what it costs so far and whether that is settled; for each unary operator what it has open, and the price

@@ -1,4 +1,4 @@
-use Rattle.std.proofs.Common.{◌≡◌, ◌∙◌, length, map, arith}
+use Rattle.std.proofs.Common.{◌≡◌, map}
 use Rattle.h_add.proofs.Growing.{gives_below}
 use Rattle.h_add.proofs.network.Network.new.Goals as goal
 

@@ -1,4 +1,4 @@
-use Rattle.std.proofs.Common.{not, ◌≡◌, ◌∙◌, ap, sym, length, take, drop, ◌++◌, arith}
+use Rattle.std.proofs.Common.{not, ◌≡◌, ap, length, arith}
 use Rattle.h_add.proofs.Growing.{written_back}
 use Rattle.std.proofs.lemmas.List.Sums.{count_by-le-length}
 use Rattle.h_add.proofs.settling.Settling.clear.Goals as goal

@@ -1,4 +1,4 @@
-use Rattle.std.proofs.Common.{◌≡◌, ◌∙◌, ap, sym, ℕ, List, [], length, map, true, arith}
+use Rattle.std.proofs.Common.{◌≡◌, ◌∙◌, ap, ℕ, List, [], length, map, true}
 use Rattle.sas_task.specs.declared.contents.Fact.{Fact}
 use Rattle.relaxed_task.specs.Numbers.{numbers_of, number_by, is_among}
 use Rattle.h_add.specs.Networks.{are_below}

@@ -1,4 +1,4 @@
-use Rattle.std.proofs.Common.{◌≡◌, ◌≤◌, ◌<◌, ◌∙◌, ap, subst, sym, false, true, get_or, ◌+◌, length, arith, length-append, [], ◌∷◌}
+use Rattle.std.proofs.Common.{◌≡◌, ◌<◌, ◌∙◌, ap, subst, sym, false, true, get_or, ◌+◌, length, arith, length-append, [], ◌∷◌}
 use Rattle.std.proofs.lemmas.List.{length-set}
 use Rattle.h_add.specs.Settlements.{Settlement, is_settled}
 use Rattle.h_add.proofs.Steps.{fewer_unsettled}

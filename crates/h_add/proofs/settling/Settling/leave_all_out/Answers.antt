@@ -1,7 +1,6 @@
-use Rattle.std.proofs.Common.{◌≡◌, ◌<◌, ◌∙◌, ap, subst, sym, ℕ, List, length, map, take, get_or, refl, arith}
+use Rattle.std.proofs.Common.{◌<◌, ◌∙◌, ap, sym, ℕ, List, length, map, refl, arith}
 use Rattle.std.proofs.lemmas.List.{get_or-map, length-map, take_all}
 use Rattle.relaxed_task.specs.Numbers.{number_by, is_among}
-use Rattle.h_add.specs.Settlements.{is_settled}
 use Rattle.h_add.proofs.Growing.{below_at}
 use Rattle.h_add.proofs.Steps.{out_more}
 use Rattle.h_add.proofs.settling.Settling.leave_all_out.Goals as goal

@@ -1,5 +1,3 @@
-use Rattle.std.proofs.Common.{◌++◌, ◌∷◌, [], subst, sym, arith}
-use Rattle.h_add.specs.Settlements.{Settlement}
 use Rattle.h_add.proofs.Steps.{there_way, there_marked, old_marked}
 use Rattle.h_add.proofs.settling.Settling.mark.Goals as goal
 

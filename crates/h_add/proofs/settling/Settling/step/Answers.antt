@@ -1,4 +1,4 @@
-use Rattle.std.proofs.Common.{◌≡◌, ◌∙◌, sym, false}
+use Rattle.std.proofs.Common.{◌∙◌, sym}
 use Rattle.h_add.proofs.Steps.{taken_within, step_given, given_later, given_less, none_later, passed_later, passed_less_now}
 use Rattle.h_add.proofs.settling.Settling.step.Goals as goal
 

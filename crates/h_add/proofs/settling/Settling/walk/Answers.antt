@@ -1,6 +1,5 @@
-use Rattle.std.proofs.Common.{◌≡◌, ◌<◌, ◌∷◌, ◌+◌, drop, length, refl, arith}
+use Rattle.std.proofs.Common.{◌<◌, ◌+◌, drop, length, refl, arith}
 use Rattle.relaxed_task.specs.Elements.{drop_within}
-use Rattle.h_add.specs.UnderWay.{IsUnderWay}
 use Rattle.h_add.proofs.Counting.{one_met, all_met, counted_more}
 use Rattle.h_add.proofs.settling.Settling.walk.Goals as goal
 
