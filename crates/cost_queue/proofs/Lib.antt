@@ -1,3 +1,1 @@
-pub mod Heaps
-pub mod Linking
-pub mod Whole
+pub mod Keeping

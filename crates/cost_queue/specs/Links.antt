@@ -1,5 +1,6 @@
 -- How the numbers that wait are kept: in a chain for each low price, and in a heap.
-use Rattle.std.specs.Prelude.{◌≡◌, ℕ, ◌+◌, ◌<◌, ◌≤◌, List, [], ◌∷◌, length, Bool, true, false, ◌&&◌, nat_eq, nat_le, Option, Some, None, slice_index_or, sum_by}
+use Rattle.std.specs.Prelude.{◌≡◌, ℕ, ◌<◌, ◌≤◌, List, [], ◌∷◌, length, Bool, false, ◌&&◌, nat_eq, nat_le, Option, Some, None, slice_index_or, sum_by}
+use Rattle.std.specs.List.{count_by}
 use Rattle.std.specs.BinaryHeap.{IsHeap}
 use Rattle.std.specs.Ordering.{nat_cmp, ordering_then}
 use Rattle.std.specs.declared.cmp.Ordering.{Ordering}
@@ -52,8 +53,7 @@ is_high None = false
 is_high (Some price) = nat_le 16384 price
 
 abbrev pub high_count : List (Option ℕ) → ℕ
-high_count [] = 0
-high_count (x ∷ xs) = one_if (is_high x) + high_count xs
+high_count waiting = count_by is_high waiting
 
 -- the numbers that wait under high prices are in the heap, which has room for all
 pub record AreHeaped (waiting : List (Option ℕ)) (heap : List Item) (len capacity : ℕ) : Type 0 where

@@ -1,5 +1,7 @@
 -- Numbers that wait, each under a price.
-use Rattle.std.specs.Prelude.{◌≡◌, ℕ, ◌+◌, ◌≤◌, List, [], ◌∷◌, Option, Some, None, slice_index_or, slice_set}
+use Rattle.std.specs.Prelude.{◌≡◌, ℕ, ◌≤◌, List, Option, Some, None, slice_index_or, slice_set}
+use Rattle.std.specs.List.{count_by}
+use Rattle.std.specs.Option.{is_some}
 use Rattle.cost_queue.specs.declared.entry.Entry.{Entry}
 
 -- the price under which a number waits
@@ -23,6 +25,4 @@ IsPopped old new (Some entry) = IsTaken old new entry
 
 -- how many wait: fewer with each that is taken out
 abbrev pub waiting_count : List (Option ℕ) → ℕ
-waiting_count [] = 0
-waiting_count (None ∷ waiting) = waiting_count waiting
-waiting_count (Some price ∷ waiting) = 1 + waiting_count waiting
+waiting_count waiting = count_by is_some waiting

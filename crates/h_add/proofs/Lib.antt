@@ -1,12 +1,6 @@
 pub mod Counting
 pub mod Exact
-pub mod Final
-pub mod Goals
 pub mod Growing
-pub mod Ordered
 pub mod Reaching
-pub mod Rounds
-pub mod Settled
-pub mod Starting
-pub mod Stepping
+pub mod Steps
 pub mod Summing

@@ -1,7 +1,7 @@
 -- What is reached, counted and paid.
-use Rattle.std.proofs.Common.{◌≡◌, ◌≢◌, ◌∙◌, sym, ap, subst, refl, ℕ, zero, suc, ◌+◌, ◌*◌, ◌<◌, ◌≤◌, ◌⊎◌, inl, inr, List, [], ◌∷◌, length, get_or, min, Bool, true, false, nat_eq, nat_le, not, ◌&&◌, ◌||◌, arith, slice_set, get_or-set_other, get_or-set_same}
+use Rattle.std.proofs.Common.{◌≡◌, ◌≢◌, ◌∙◌, sym, ap, refl, ℕ, ◌+◌, ◌*◌, ◌<◌, ◌≤◌, ◌⊎◌, inl, inr, List, [], ◌∷◌, get_or, min, Bool, true, false, nat_eq, nat_le, not, ◌&&◌, ◌||◌, arith}
 use Rattle.std.specs.List.{list_all}
-use Rattle.std.proofs.lemmas.Bool.Decides.{nat_tests}
+use Rattle.std.proofs.lemmas.Bool.{eq-eqb, le-leb, lt-leb, leb-true}
 use Rattle.cost_queue.specs.Occurrences.{one_if, occurrences}
 use Rattle.lama_num.specs.Estimates.{estimate_sum}
 use Rattle.lama_num.specs.Lists.{both}
@@ -17,7 +17,7 @@ use Rattle.h_add.specs.Values.{estimate_of, value_at}
 
 -- tests that are decided
 pub itself : (n : ℕ) → nat_eq n n ≡ true
-itself n = grind (arith, nat_tests)
+itself n = eq-eqb n n refl
 
 pub or_true : (a : Bool) → (a || true) ≡ true
 or_true true = refl
@@ -32,23 +32,14 @@ and_true true = refl
 and_true false = refl
 
 pub finite_is : (cost : ℕ) → cost ≤ 1000000000 → estimate_of cost ≡ Finite cost
-finite_is cost le = let h : nat_le cost 1000000000 ≡ true = grind (arith, nat_tests) in rw h refl
+finite_is cost le = rw (le-leb cost 1000000000 le) refl
 
 pub infinite_is : (cost : ℕ) → 1000000000 < cost → estimate_of cost ≡ Infinite
-infinite_is cost lt = let h : nat_le cost 1000000000 ≡ false = grind (arith, nat_tests) in rw h refl
-
-pub small_cost : (cost : ℕ) → nat_le cost 1000000000 ≡ true → cost ≤ 1000000000
-small_cost cost h = grind (arith, nat_tests, h)
-
-pub large_cost : (cost : ℕ) → nat_le cost 1000000000 ≡ false → 1000000000 < cost
-large_cost cost h = grind (arith, nat_tests, h)
-
-pub is_small : (cost : ℕ) → cost ≤ 1000000000 → nat_le cost 1000000000 ≡ true
-is_small cost h = grind (arith, nat_tests)
+infinite_is cost lt = rw (lt-leb cost 1000000000 lt) refl
 
 -- what is reached is settled, and costs little
 pub reached_small : (t : Settlement) (fact : ℕ) → is_reached t fact ≡ true → (is_settled t fact ≡ true) × (cost_at t fact ≤ 1000000000)
-reached_small t fact is = let parts = both (is_settled t fact) (nat_le (cost_at t fact) 1000000000) is in (parts.0, small_cost (cost_at t fact) parts.1)
+reached_small t fact is = let parts = both (is_settled t fact) (nat_le (cost_at t fact) 1000000000) is in (parts.0, leb-true (cost_at t fact) 1000000000 parts.1)
 
 -- what isn't settled is neither reached nor left out
 pub unsettled_not : (t : Settlement) (fact : ℕ) → is_settled t fact ≡ false → (is_reached t fact ≡ false) × (is_left_out t fact ≡ false)
@@ -65,10 +56,6 @@ reached_same t u settled kept fact = by_test (is_settled t fact) refl
     by_test : (b : Bool) → is_settled t fact ≡ b → (is_reached u fact ≡ is_reached t fact) × (is_left_out u fact ≡ is_left_out t fact)
     by_test true is = let cost = kept fact is in (rw (same, cost) refl, rw (same, cost) refl)
     by_test false is = let now : is_settled u fact ≡ false = same ∙ is in (rw (now, is) refl, rw (now, is) refl)
-
-pub unreached_same : (p q : ℕ → Bool) (conds : List ℕ) → ((fact : ℕ) → p fact ≡ q fact) → unreached p conds ≡ unreached q conds
-unreached_same p q [] same = refl
-unreached_same p q (c ∷ conds) same = let rest = unreached_same p q conds same in let here : one_if (not (p c)) ≡ one_if (not (q c)) = ap (λ (b : Bool). one_if (not b)) (same c) in omega arith
 
 one_times : (b : Bool) (x y : ℕ) → (b ≡ true → x ≡ y) → one_if b * x ≡ one_if b * y
 one_times true x y same = ap (λ (n : ℕ). 1 * n) (same refl)

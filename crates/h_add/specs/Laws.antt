@@ -1,24 +1,35 @@
--- Laws of unary operators and of evaluated states, for those who build on the estimate.
-use Rattle.std.specs.Prelude.{◌≡◌, ℕ, List, [], ◌∷◌, Bool, true, false, not, ◌&&◌, ◌||◌, ◌↔◌}
+-- Laws of evaluated states, for those who build on the estimate.
+use Rattle.std.specs.Prelude.{◌≡◌, ℕ, suc, List, [], ◌∷◌, ◌++◌, Bool, true, false, not, ◌&&◌, ◌||◌, ◌↔◌, nat_eq, Some, slice_get}
 use Rattle.std.specs.List.{list_all, list_any}
 use Rattle.std.proofs.Common.{refl, sym, ap, ◌∙◌}
-use Rattle.lama_num.specs.Estimates.{estimate_sum}
+use Rattle.std.proofs.lemmas.Bool.{both_ways, eq-eqb, false_from_ne_true, not-false, not-true, not_from_false, not_from_true, true_from_ne_false}
+use Rattle.std.proofs.lemmas.List.Elements.{filter_map-append}
+use Rattle.lama_num.specs.Lists.{list_all_get}
 use Rattle.lama_num.specs.declared.estimates.Estimate.{Estimate}
-use Rattle.lama_num.specs.declared.estimates.Estimate.TheVariants.{Finite, Infinite}
+use Rattle.lama_num.specs.declared.estimates.Estimate.TheVariants.{Infinite}
+use Rattle.sas_task.specs.Laws.{goal-facts}
 use Rattle.sas_task.specs.States.{IsState}
 use Rattle.sas_task.specs.WellFormed.{IsWellFormed, is_fact}
 use Rattle.sas_task.specs.declared.contents.CostKind.{CostKind}
 use Rattle.sas_task.specs.declared.contents.Fact.{Fact}
 use Rattle.sas_task.specs.declared.contents.Parts.{Parts}
-use Rattle.relaxed_task.specs.NumberLaws.{cost_of_fact, any_of_facts}
-use Rattle.relaxed_task.specs.ReachLaws.{dead_exactly}
-use Rattle.relaxed_task.specs.declared.relaxation.Lists.{Lists}
+use Rattle.relaxed_task.specs.AdditiveCosts.{IsAdditiveCost}
+use Rattle.relaxed_task.specs.CostLaws.{sum_finite}
+use Rattle.relaxed_task.specs.Elements.{any_at}
+use Rattle.relaxed_task.specs.EstimateLaws.{finite_plus, infinite_where_not}
 use Rattle.relaxed_task.specs.Estimates.{is_finite}
-use Rattle.relaxed_task.specs.Numbers.{number_of, numbers_of, costs_by}
-use Rattle.relaxed_task.specs.Reached.{IsDead}
+use Rattle.relaxed_task.specs.Facts.{distinct_facts}
+use Rattle.relaxed_task.specs.NumberLaws.{any_of_facts, cost_of_fact, sum_by_number}
+use Rattle.relaxed_task.specs.Numbers.{number_of, numbers_of, costs_by, is_among}
+use Rattle.relaxed_task.specs.ReachLaws.{finite_exactly}
+use Rattle.relaxed_task.specs.Reached.{IsDead, IsReached}
 use Rattle.relaxed_task.specs.Relaxations.{IsRelaxed}
 use Rattle.relaxed_task.specs.Relaxing.{sum_of as total}
-use Rattle.h_add.specs.Values.{value_at, IsEvaluated, IsEvaluatedByNumber}
+use Rattle.relaxed_task.specs.declared.relaxation.Lists.{Lists}
+use Rattle.relaxed_task.specs.declared.unary.Unary.{Unary}
+use Rattle.h_add.specs.ByNumber.{IsAdd}
+use Rattle.h_add.specs.Orders.{chosen}
+use Rattle.h_add.specs.Values.{value_at, IsEvaluated, IsEvaluatedByNumber, IsValueOfGoals}
 
 -- what is evaluated by number is evaluated
 pub evaluated_facts : (parts : Parts) (kind : CostKind) (state : List ℕ) (without : List Fact) (costs : List ℕ) → IsWellFormed parts → IsState parts.variables state → list_all (is_fact parts.variables) without ≡ true →
@@ -28,71 +39,84 @@ evaluated_facts parts kind state without costs formed of all each = record {
   each = λ fact h. cost_of_fact parts kind state without fact (costs_by parts.variables (value_at costs) fact) formed of all h (each (number_of parts.variables fact));
 }
 
--- some goal fact is infinite exactly where the state is dead
-pub infinite_if_dead : (parts : Parts) (kind : CostKind) (relaxed : Lists) (state costs : List ℕ) → IsRelaxed parts kind relaxed → IsEvaluated parts kind state [] costs →
-    (list_any (λ fact. not (is_finite (value_at costs fact))) relaxed.goals ≡ true) ↔ IsDead parts state
-infinite_if_dead parts kind relaxed state costs is evaluated = (
-  λ some. exactly.0 (sym goals ∙ some),
-  λ dead. goals ∙ exactly.1 dead,
-)
-  where
-    exactly : (list_any (λ fact. not (is_finite (costs_by parts.variables (value_at costs) fact))) parts.goal ≡ true) ↔ IsDead parts state
-    exactly = dead_exactly parts kind state (costs_by parts.variables (value_at costs)) is.well_formed evaluated.each
+-- the goal facts cost what they do
+abbrev pub AreGoalCosts : Parts → CostKind → List ℕ → List ℕ → Type 0
+AreGoalCosts parts kind state costs = (place : ℕ) (goal : Fact) → slice_get parts.goal place ≡ Some goal → IsAdditiveCost parts kind state [] goal (costs_by parts.variables (value_at costs) goal)
 
-    goals : list_any (λ fact. not (is_finite (value_at costs fact))) relaxed.goals ≡ list_any (λ fact. not (is_finite (costs_by parts.variables (value_at costs) fact))) parts.goal
-    goals =
-        ap (list_any (λ fact. not (is_finite (value_at costs fact)))) is.goals
-        ∙ any_of_facts parts.variables (λ fact. not (is_finite (value_at costs fact))) parts.goal
+pub goals_of_all : (parts : Parts) (kind : CostKind) (state costs : List ℕ) → IsWellFormed parts → IsEvaluated parts kind state [] costs → AreGoalCosts parts kind state costs
+goals_of_all parts kind state costs formed evaluated place goal at = evaluated.each goal (list_all_get (is_fact parts.variables) parts.goal place goal (goal-facts parts formed) at)
 
-finite_or_not : (value : ℕ → Estimate) (facts : List ℕ) → list_all (λ fact. is_finite (value fact)) facts ≡ not (list_any (λ fact. not (is_finite (value fact))) facts)
-finite_or_not value [] = refl
-finite_or_not value (fact ∷ facts) = by_test (is_finite (value fact)) (finite_or_not value facts)
-  where
-    by_test : (b : Bool) → list_all (λ fact. is_finite (value fact)) facts ≡ not (list_any (λ fact. not (is_finite (value fact))) facts) →
-        (b && list_all (λ fact. is_finite (value fact)) facts) ≡ not (not b || list_any (λ fact. not (is_finite (value fact))) facts)
-    by_test true rest = rest
-    by_test false rest = refl
+pub goals_by_number : (parts : Parts) (kind : CostKind) (relaxed : Lists) (state costs : List ℕ) → IsRelaxed parts kind relaxed → IsState parts.variables state → ((fact : ℕ) → is_among relaxed.goals fact ≡ true → IsAdd parts kind state [] fact (value_at costs fact)) →
+    AreGoalCosts parts kind state costs
+goals_by_number parts kind relaxed state costs is of each place goal at =
+    cost_of_fact parts kind state [] goal (costs_by parts.variables (value_at costs) goal) is.well_formed of refl (list_all_get (is_fact parts.variables) parts.goal place goal (goal-facts parts is.well_formed) at)
+    (each (number_of parts.variables goal) (ap (λ (goals : List ℕ). is_among goals (number_of parts.variables goal)) is.goals
+    ∙ (any_of_facts parts.variables (nat_eq (number_of parts.variables goal)) parts.goal
+    ∙ any_at (λ g. nat_eq (number_of parts.variables goal) (number_of parts.variables g)) parts.goal place goal at (eq-eqb (number_of parts.variables goal) (number_of parts.variables goal) refl))))
 
--- the goal facts are reached where the state isn't dead
-pub finite_if_alive : (parts : Parts) (kind : CostKind) (relaxed : Lists) (state costs : List ℕ) → IsRelaxed parts kind relaxed → IsEvaluated parts kind state [] costs → (IsDead parts state → ⊥) →
-    list_all (λ fact. is_finite (value_at costs fact)) relaxed.goals ≡ true
-finite_if_alive parts kind relaxed state costs is evaluated alive =
-    by_test (list_any (λ fact. not (is_finite (value_at costs fact))) relaxed.goals) refl
-  where
-    by_test : (b : Bool) → list_any (λ fact. not (is_finite (value_at costs fact))) relaxed.goals ≡ b → list_all (λ fact. is_finite (value_at costs fact)) relaxed.goals ≡ true
-    by_test true some = absurd (alive ((infinite_if_dead parts kind relaxed state costs is evaluated).0 some))
-    by_test false none = finite_or_not (value_at costs) relaxed.goals ∙ ap not none
+pub value_of_goals : (parts : Parts) (kind : CostKind) (relaxed : Lists) (state costs : List ℕ) (value : Estimate) → IsRelaxed parts kind relaxed → AreGoalCosts parts kind state costs → value ≡ total (value_at costs) relaxed.goals → IsValueOfGoals parts kind state value
+value_of_goals parts kind relaxed state costs value is each sums = record {
+  costs = costs_by parts.variables (value_at costs);
+  each = each;
+  sum = sums ∙ (ap (total (value_at costs)) is.goals ∙ sum_by_number parts.variables (value_at costs) (distinct_facts parts.goal));
+}
 
--- a sum is infinite exactly where one of its facts is
-sum_infinite : (a b : Estimate) → is_finite (estimate_sum a b) ≡ (is_finite a && is_finite b)
-sum_infinite (Finite a) (Finite b) = refl
-sum_infinite (Finite a) Infinite = refl
-sum_infinite Infinite b = refl
-
-pub total_finite : (value : ℕ → Estimate) (facts : List ℕ) → is_finite (total value facts) ≡ not (list_any (λ fact. not (is_finite (value fact))) facts)
+-- a sum is finite where no summand is infinite
+total_finite : (value : ℕ → Estimate) (facts : List ℕ) → is_finite (total value facts) ≡ not (list_any (λ fact. not (is_finite (value fact))) facts)
 total_finite value [] = refl
-total_finite value (fact ∷ facts) = sum_infinite (value fact) (total value facts) ∙ by_test (is_finite (value fact)) (total_finite value facts)
+total_finite value (fact ∷ facts) = finite_plus (value fact) (total value facts) ∙ (ap (λ (b : Bool). is_finite (value fact) && b) (total_finite value facts) ∙ same (is_finite (value fact)) (list_any (λ f. not (is_finite (value f))) facts))
   where
-    by_test : (b : Bool) → is_finite (total value facts) ≡ not (list_any (λ fact. not (is_finite (value fact))) facts) →
-        (b && is_finite (total value facts)) ≡ not (not b || list_any (λ fact. not (is_finite (value fact))) facts)
-    by_test true rest = rest
-    by_test false rest = refl
+    same : (a b : Bool) → (a && not b) ≡ not (not a || b)
+    same true b = refl
+    same false b = refl
+
+-- an element that passes a test
+record Found {X : Type 0} (p : X → Bool) (xs : List X) : Type 0 where
+  place : ℕ
+  element : X
+  at : slice_get xs place ≡ Some element
+  passes : p element ≡ true
+
+found_in : {X : Type 0} (p : X → Bool) (xs : List X) → list_any p xs ≡ true → Found p xs
+found_in p [] any = let k : false ≡ true = any in cc
+found_in p (x ∷ xs) any = by_test (p x) refl any (found_in p xs)
+  where
+    by_test : (b : Bool) → p x ≡ b → (b || list_any p xs) ≡ true → (list_any p xs ≡ true → Found p xs) → Found p (x ∷ xs)
+    by_test true is any rest = record { place = 0; element = x; at = refl; passes = is }
+    by_test false is any rest = let found = rest any in record { place = suc found.place; element = found.element; at = found.at; passes = found.passes }
 
 -- the sum over the goal facts is infinite exactly where the state is dead
-pub sum_infinite_if_dead : (parts : Parts) (kind : CostKind) (relaxed : Lists) (state costs : List ℕ) (sum : Estimate) → IsRelaxed parts kind relaxed → IsEvaluated parts kind state [] costs → sum ≡ total (value_at costs) relaxed.goals →
-    (sum ≡ Infinite) ↔ IsDead parts state
-sum_infinite_if_dead parts kind relaxed state costs sum is evaluated sums = (
-  λ infinite. same.0 (some (list_any (λ fact. not (is_finite (value_at costs fact))) relaxed.goals) (sym (total_finite (value_at costs) relaxed.goals) ∙ ap is_finite (sym sums ∙ infinite))),
-  λ dead. sums ∙ infinite_one (total (value_at costs) relaxed.goals) (total_finite (value_at costs) relaxed.goals ∙ ap not (same.1 dead)),
+pub dead_by_goals : (parts : Parts) (kind : CostKind) (relaxed : Lists) (state costs : List ℕ) (value : Estimate) → IsRelaxed parts kind relaxed → AreGoalCosts parts kind state costs → value ≡ total (value_at costs) relaxed.goals → (value ≡ Infinite) ↔ IsDead parts state
+dead_by_goals parts kind relaxed state costs value is each sums = (
+  λ infinite. (let found = found_in (λ fact. not (is_finite (costs_by parts.variables (value_at costs) fact))) parts.goal (sym goals ∙ not-false _ (sym finite ∙ ap is_finite infinite)) in
+      record {
+        place = found.place;
+        goal = found.element;
+        at = found.at;
+        unreached = λ n. false_from_ne_true _ (λ reached. both_ways _ (not-true _ found.passes) ((exactly found.place found.element found.at).1 (record { round = n; reached = reached })));
+      }),
+  λ dead. (let any = any_at (λ fact. not (is_finite (costs_by parts.variables (value_at costs) fact))) parts.goal dead.place dead.goal dead.at
+      (not_from_false _ (false_from_ne_true _ (λ finite. (let r = (exactly dead.place dead.goal dead.at).0 finite in both_ways _ (dead.unreached r.round) r.reached)))) in
+      infinite_where_not value (finite ∙ not_from_true _ (goals ∙ any))),
 )
   where
-    same : (list_any (λ fact. not (is_finite (value_at costs fact))) relaxed.goals ≡ true) ↔ IsDead parts state
-    same = infinite_if_dead parts kind relaxed state costs is evaluated
+    goals : list_any (λ fact. not (is_finite (value_at costs fact))) relaxed.goals ≡ list_any (λ fact. not (is_finite (costs_by parts.variables (value_at costs) fact))) parts.goal
+    goals = ap (list_any (λ fact. not (is_finite (value_at costs fact)))) is.goals ∙ any_of_facts parts.variables (λ fact. not (is_finite (value_at costs fact))) parts.goal
 
-    some : (b : Bool) → not b ≡ false → b ≡ true
-    some true h = refl
-    some false h = let k : true ≡ false = h in cc
+    finite : is_finite value ≡ not (list_any (λ fact. not (is_finite (value_at costs fact))) relaxed.goals)
+    finite = ap is_finite sums ∙ total_finite (value_at costs) relaxed.goals
 
-    infinite_one : (e : Estimate) → is_finite e ≡ false → e ≡ Infinite
-    infinite_one (Finite a) h = let k : true ≡ false = h in cc
-    infinite_one Infinite h = refl
+    exactly : (place : ℕ) (goal : Fact) → slice_get parts.goal place ≡ Some goal → (is_finite (costs_by parts.variables (value_at costs) goal) ≡ true) ↔ IsReached parts state [] goal
+    exactly place goal at = finite_exactly parts kind state [] goal (costs_by parts.variables (value_at costs) goal) (each place goal at)
+
+-- the goal facts are reached where the state isn't dead
+pub finite_if_alive : (parts : Parts) (kind : CostKind) (relaxed : Lists) (state costs : List ℕ) → IsRelaxed parts kind relaxed → IsEvaluated parts kind state [] costs → (IsDead parts state → ⊥) → list_all (λ fact. is_finite (value_at costs fact)) relaxed.goals ≡ true
+finite_if_alive parts kind relaxed state costs is evaluated alive =
+    sym (sum_finite (value_at costs) relaxed.goals)
+    ∙ true_from_ne_false _ (λ none. alive ((dead_by_goals parts kind relaxed state costs (total (value_at costs) relaxed.goals) is (goals_of_all parts kind state costs is.well_formed evaluated) refl).0 (infinite_where_not _ none)))
+
+-- one place more of an order
+pub chosen_grows : (unaries : List Unary) (order : List ℕ) (i : ℕ) (u : Unary) → slice_get unaries i ≡ Some u → chosen unaries (order ++ i ∷ []) ≡ chosen unaries order ++ u ∷ []
+chosen_grows unaries order i u at =
+    let one : chosen unaries (i ∷ []) ≡ u ∷ [] = rw at refl in
+    filter_map-append (λ k. slice_get unaries k) order (i ∷ []) ∙ ap (λ (xs : List Unary). chosen unaries order ++ xs) one

@@ -1,6 +1,5 @@
 -- Lists that grow.
-use Rattle.std.specs.Prelude.{◌≡◌, ℕ, ◌+◌, ◌<◌, List, length, true, nat_eq, nat_lt, if◌then◌else◌}
-use Rattle.std.specs.List.{list_all}
+use Rattle.std.specs.Prelude.{◌≡◌, ℕ, ◌+◌, List, length, nat_eq, if◌then◌else◌}
 use Rattle.cost_queue.specs.Occurrences.{occurrences}
 use Rattle.lama_num.specs.Rows.{row_at}
 
@@ -8,4 +7,3 @@ use Rattle.lama_num.specs.Rows.{row_at}
 pub record Listed (old new : List (List ℕ)) (facts : List ℕ) (place : ℕ) : Type 0 where
   pub long : length new ≡ length old
   pub counts : (fact i : ℕ) → occurrences i (row_at new fact) ≡ occurrences i (row_at old fact) + (if nat_eq i place then occurrences fact facts else 0)
-  pub within : (n : ℕ) → place < n → list_all (list_all (λ i. nat_lt i n)) old ≡ true → list_all (list_all (λ i. nat_lt i n)) new ≡ true

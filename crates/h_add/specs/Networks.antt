@@ -1,5 +1,5 @@
 -- What unary operators need and give.
-use Rattle.std.specs.Prelude.{◌≡◌, ℕ, ◌-◌, List, [], ◌∷◌, length, min, max, Bool, nat_lt, slice_get, Some}
+use Rattle.std.specs.Prelude.{◌≡◌, ℕ, ◌-◌, List, [], ◌∷◌, length, min, max, Bool, nat_lt, map, slice_get, slice_index_or, Some}
 use Rattle.std.specs.List.{list_all}
 use Rattle.cost_queue.specs.Occurrences.{occurrences}
 use Rattle.lama_num.specs.Rows.{row_at}
@@ -19,9 +19,9 @@ abbrev pub needed : ℕ → List ℕ → List ℕ
 needed always [] = always ∷ []
 needed always (c ∷ conds) = c ∷ conds
 
--- a unary operator stands in the row of a fact as often as it needs the fact
+-- a unary operator stands in the row of a fact as often as it needs the fact, and nothing else does
 abbrev pub IsNeededBy : List Unary → ℕ → ℕ → List ℕ → Type 0
-IsNeededBy unaries always fact row = (i : ℕ) (u : Unary) → slice_get unaries i ≡ Some u → occurrences i row ≡ occurrences fact (needed always u.conds)
+IsNeededBy unaries always fact row = (i : ℕ) → occurrences i row ≡ slice_index_or (map (λ u. occurrences fact (needed always u.conds)) unaries) i 0
 
 abbrev pub IsNeeds : List Unary → ℕ → List (List ℕ) → Type 0
 IsNeeds unaries always needs = (fact : ℕ) → IsNeededBy unaries always fact (row_at needs fact)

@@ -1,7 +1,6 @@
 -- An evaluation under way: what facts cost so far, and which of them are settled.
-use Rattle.std.specs.Prelude.{◌≡◌, ℕ, ◌+◌, ◌-◌, ◌≤◌, List, [], ◌∷◌, ◌++◌, length, min, Bool, true, false, not, ◌&&◌, nat_eq, nat_lt, nat_le, Option, Some, None, slice_get, slice_index, slice_index_or, slice_set, map, if◌then◌else◌}
-use Rattle.cost_queue.specs.Occurrences.{one_if}
-use Rattle.relaxed_task.specs.declared.unary.Unary.{Unary}
+use Rattle.std.specs.Prelude.{◌≡◌, ℕ, ◌+◌, ◌-◌, ◌≤◌, List, [], ◌∷◌, ◌++◌, length, min, Bool, true, false, not, ◌&&◌, nat_lt, nat_le, Option, Some, slice_index, slice_index_or, slice_set, if◌then◌else◌}
+use Rattle.std.specs.List.{count_by}
 use Rattle.h_add.specs.declared.network.Open.{Open}
 
 -- For each fact what it costs so far and whether that is settled; for each unary operator what it has open, and the price
@@ -14,12 +13,10 @@ pub record Settlement : Type 0 where
   pub order : List ℕ
 
 abbrev pub unsettled : List Bool → ℕ
-unsettled [] = 0
-unsettled (flag ∷ flags) = one_if (not flag) + unsettled flags
+unsettled flags = count_by not flags
 
 -- all speak of the same facts and unary operators, and the order has room for all facts
 pub record AreLevel (costs : List ℕ) (settled : List Bool) (opens : List Open) (waiting : List (Option ℕ)) (order : List ℕ) (room : ℕ) : Type 0 where
-  pub few : length costs ≤ 4194304
   pub settled_long : length settled ≡ length costs
   pub waiting_long : length waiting ≡ length opens
   pub order_count : length order + unsettled settled ≤ length costs
@@ -56,6 +53,10 @@ less_open counts value = record { count = counts.count - 1; sum = min (counts.su
 abbrev pub counted : Settlement → ℕ → ℕ → Settlement
 counted t place value = record t { opens = slice_set t.opens place (less_open (open_at t place) value) }
 
--- a fact is settled at a cost, as one at the start or by a unary operator
-abbrev pub settled_at : Settlement → ℕ → ℕ → List ℕ → Settlement
-settled_at t fact cost order = record t { costs = slice_set t.costs fact cost; settled = slice_set t.settled fact true; order = order }
+-- a fact that is there at first is settled at no cost
+abbrev pub there_at : Settlement → ℕ → Settlement
+there_at t fact = record t { costs = slice_set t.costs fact 0; settled = slice_set t.settled fact true }
+
+-- a unary operator settles the fact that it gives, which costs its price already
+abbrev pub given_at : Settlement → ℕ → ℕ → Settlement
+given_at t fact place = record t { settled = slice_set t.settled fact true; order = t.order ++ place ∷ [] }

@@ -1,14 +1,14 @@
 -- What is true of an evaluation under way.
-use Rattle.std.specs.Prelude.{◌≡◌, ℕ, ◌+◌, ◌*◌, ◌≤◌, ◌<◌, List, [], ◌∷◌, ◌++◌, length, map, min, Bool, true, false, not, ◌&&◌, ◌⊎◌, slice_get, slice_set, Option, Some}
+use Rattle.std.specs.Prelude.{◌≡◌, ℕ, ◌+◌, ◌*◌, ◌≤◌, ◌<◌, List, [], ◌∷◌, ◌++◌, length, map, min, Bool, true, false, not, ◌&&◌, ◌⊎◌, slice_get, Some}
+use Rattle.std.specs.List.{list_all}
 use Rattle.cost_queue.specs.Occurrences.{one_if, occurrences}
 use Rattle.cost_queue.specs.Queues.{price_of, waiting_count, IsIdle}
 use Rattle.relaxed_task.specs.declared.unary.Unary.{Unary}
-use Rattle.relaxed_task.specs.Numbers.{is_among}
-use Rattle.h_add.specs.ByNumber.{IsInOrder, IsAttained}
+use Rattle.relaxed_task.specs.Numbers.{is_among, is_below}
+use Rattle.h_add.specs.ByNumber.{IsInOrder}
 use Rattle.h_add.specs.Networks.{open_at_start}
 use Rattle.h_add.specs.Orders.{chosen, given_by}
 use Rattle.h_add.specs.Settlements.{Settlement, cost_at, is_settled, is_reached, is_left_out, open_at, unsettled}
-use Rattle.h_add.specs.Values.{value_at}
 
 -- how many of some facts aren't reached
 abbrev pub unreached : (ℕ → Bool) → List ℕ → ℕ
@@ -81,22 +81,34 @@ pub record IsFresh (unaries : List Unary) (t : Settlement) : Type 0 where
 abbrev pub IsOut : List ℕ → Settlement → Type 0
 IsOut without t = (fact : ℕ) → is_left_out t fact ≡ is_among without fact
 
--- from the facts of a start, of which some are reached so far, and some by the order
-pub record IsFrom (unaries : List Unary) (start without had : List ℕ) (t : Settlement) : Type 0 where
+-- from the facts that were there at first, and those that the order gave
+pub record IsFrom (unaries : List Unary) (without had : List ℕ) (t : Settlement) : Type 0 where
   pub out : IsOut without t
-  pub attained : IsAttained unaries start without (value_at t.costs)
   pub reached : (fact : ℕ) → is_reached t fact ≡ (is_among (had ++ given_by (chosen unaries t.order)) fact && not (is_among without fact))
   pub first : (fact : ℕ) → is_among had fact ≡ true → is_among without fact ≡ false → cost_at t fact ≡ 0
   pub in_order : IsInOrder had (chosen unaries t.order)
 
 -- some unary operators counted a fact
-pub record HasCounted (unaries : List Unary) (old new : Settlement) : Type 0 where
+pub record HasCounted (old new : Settlement) : Type 0 where
   pub settled : new.settled ≡ old.settled
   pub order : new.order ≡ old.order
   pub costs_long : length new.costs ≡ length old.costs
   pub waiting_long : length new.waiting ≡ length old.waiting
   pub kept : (fact : ℕ) → is_settled old fact ≡ true → cost_at new fact ≡ cost_at old fact
-  pub attained : (start without : List ℕ) → IsOut without old → IsAttained unaries start without (value_at old.costs) → IsAttained unaries start without (value_at new.costs)
+
+-- before any unary operator settled a fact, some facts more are there at first
+pub record HasMarked (unaries : List Unary) (facts : List ℕ) (old new : Settlement) : Type 0 where
+  pub way : IsUnderWay unaries 0 [] new
+  pub from : (without had : List ℕ) → list_all (is_below (length old.costs)) facts ≡ true → old.order ≡ [] → IsFrom unaries without had old → IsFrom unaries without (had ++ facts) new
+  pub order : new.order ≡ old.order
+  pub long : length new.costs ≡ length old.costs
+
+-- some facts more are settled by unary operators
+pub record IsLater (unaries : List Unary) (old new : Settlement) : Type 0 where
+  pub way : IsSettling unaries new
+  pub from : (without had : List ℕ) → IsFrom unaries without had old → IsFrom unaries without had new
+  pub long : length new.costs ≡ length old.costs
+  pub stays : (fact : ℕ) → is_settled old fact ≡ true → is_settled new fact ≡ true
 
 -- what is left to do: it falls with each unary operator that is taken
 abbrev pub left_to_do : Settlement → ℕ
@@ -104,4 +116,4 @@ left_to_do t = unsettled t.settled * (length t.waiting + 1) + waiting_count t.wa
 
 -- some facts are settled, or none waits
 abbrev pub AreSettled : List ℕ → Settlement → Type 0
-AreSettled facts t = ((fact : ℕ) → is_among facts fact ≡ true → is_settled t fact ≡ true) ⊎ IsIdle t.waiting
+AreSettled facts t = (list_all (is_settled t) facts ≡ true) ⊎ IsIdle t.waiting

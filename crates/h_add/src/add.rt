@@ -13,12 +13,13 @@ ghost use Rattle.h_add.specs.ByNumber.{start_facts};
 ghost use Rattle.relaxed_task.specs.Estimates.{is_finite};
 ghost use Rattle.relaxed_task.specs.Reached.{IsDead, IsReached};
 ghost use Rattle.relaxed_task.specs.Relaxations.{IsRelaxed};
+ghost use Rattle.relaxed_task.specs.Relaxing.{sum_of};
 ghost use Rattle.h_add.specs.Orders.{IsOrder, are_places};
 ghost use Rattle.h_add.specs.Values.{value_at, IsEvaluated, IsEvaluatedByNumber, IsValueOfGoals};
 
 use crate::network::Network;
 use crate::settling::Settling;
-use crate::sums::{estimate, some_infinite, total, value_of};
+use crate::sums::{estimate, total, value_of};
 use lama_num::{Estimate, NoMemory};
 use relaxed_task::Relaxed;
 use sas_task::{CostKind, Fact, Task};
@@ -55,24 +56,17 @@ impl Model for Add {
     ghost invariant = { λ a. IsReady a.network a.settling };
 }
 
-/// The evaluator over a relaxation.
-fn evaluator(alloc: Global, relaxed: Relaxed) -> Result<Add, NoMemory>
-    ensures { IfOk result (λ add. add.relaxed ≡ relaxed) }
-{
-    let facts = relaxed.facts() as usize;
-    let unaries = relaxed.unary().len();
-    let network = Network::new(alloc, relaxed)?;
-    let settling = Settling::new(alloc, facts, unaries)?;
-    Ok(Add { network, settling })
-}
-
 impl Add {
     /// The evaluator of a task, with operators that cost what a kind of cost says.
     pub fn new(alloc: Global, task: &Task, kind: CostKind) -> Result<Add, NoMemory>
         ensures { IfOk result (λ add. IsRelaxed task.now kind add.relaxed) }
     {
         let relaxed = Relaxed::new(alloc, task, kind)?;
-        evaluator(alloc, relaxed)
+        let facts = relaxed.facts() as usize;
+        let unaries = relaxed.unary().len();
+        let network = Network::new(alloc, relaxed)?;
+        let settling = Settling::new(alloc, facts, unaries)?;
+        Ok(Add { network, settling })
     }
 
     /// The relaxation of the task.
@@ -130,7 +124,7 @@ impl Add {
             ((result ≡ Estimate.Infinite) ↔ IsDead parts state.now) }
     {
         self.settling.evaluate_goals(&self.network, state);
-        estimate(total(self.settling.costs(), self.network.relaxed().goals()))
+        self.goal_sum()
     }
 
     /// What a fact costs.
@@ -168,6 +162,13 @@ impl Add {
         self.settling.order()
     }
 
+    /// The sum of the costs that are kept of the goal facts.
+    fn goal_sum(&self) -> Estimate
+        ensures { result ≡ sum_of (value_at self.now.costs) self.now.relaxed.goals }
+    {
+        estimate(total(self.settling.costs(), self.network.relaxed().goals()))
+    }
+
     /// The sum of what the goal facts cost, each once. It is finite where all of them are reached,
     /// and then at most 1,000,000,000.
     pub fn goal_value(&self) -> Estimate
@@ -180,7 +181,7 @@ impl Add {
             IsEvaluated parts kind state [] self.now.costs →
             ((result ≡ Estimate.Infinite) ↔ IsDead parts state) }
     {
-        estimate(total(self.settling.costs(), self.network.relaxed().goals()))
+        self.goal_sum()
     }
 
     /// Whether some goal fact is never reached. Then no operators lead to a state where the goal
@@ -194,6 +195,9 @@ impl Add {
             IsEvaluated parts kind state [] self.now.costs → IsTrue result →
             end_of parts state ops ≡ Some last → is_goal parts last ≡ false }
     {
-        some_infinite(self.settling.costs(), self.network.relaxed().goals())
+        match self.goal_sum() {
+            Estimate::Infinite => true,
+            Estimate::Finite(_) => false,
+        }
     }
 }

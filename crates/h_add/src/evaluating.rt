@@ -11,7 +11,7 @@ ghost use Rattle.h_add.specs.ByNumber.{start_facts, IsAdd};
 ghost use Rattle.relaxed_task.specs.Relaxations.{IsRelaxed};
 ghost use Rattle.h_add.specs.Orders.{IsOrder, are_places};
 ghost use Rattle.h_add.specs.Settlements.{is_settled};
-ghost use Rattle.h_add.specs.UnderWay.{IsSettling, IsFrom, AreSettled};
+ghost use Rattle.h_add.specs.UnderWay.{IsSettling, IsLater, AreSettled};
 ghost use Rattle.h_add.specs.Values.{value_at, IsEvaluatedByNumber};
 
 use crate::network::Network;
@@ -23,12 +23,8 @@ impl Settling {
     fn settle_all(&mut self, network: &Network)
         requires facts { network.now.facts ≡ length self.old.costs }
         requires way { IsSettling network.now.unaries self.old }
-        ensures way { IsSettling network.now.unaries self.new }
+        ensures later { IsLater network.now.unaries self.old self.new }
         ensures idle { IsIdle self.new.waiting }
-        ensures from { (start without had : List ℕ) →
-            IsFrom network.now.unaries start without had self.old →
-            IsFrom network.now.unaries start without had self.new }
-        ensures long { length self.new.costs ≡ length self.old.costs }
     {
         'steps: while self.step(network) {}
     }
@@ -37,15 +33,9 @@ impl Settling {
     fn settle_until(&mut self, network: &Network, fact: usize) -> bool
         requires facts { network.now.facts ≡ length self.old.costs }
         requires way { IsSettling network.now.unaries self.old }
-        ensures way { IsSettling network.now.unaries self.new }
+        ensures later { IsLater network.now.unaries self.old self.new }
         ensures settled { result ≡ true → is_settled self.new fact ≡ true }
         ensures idle { result ≡ false → IsIdle self.new.waiting }
-        ensures from { (start without had : List ℕ) →
-            IsFrom network.now.unaries start without had self.old →
-            IsFrom network.now.unaries start without had self.new }
-        ensures long { length self.new.costs ≡ length self.old.costs }
-        ensures stays { (other : ℕ) → is_settled self.old other ≡ true →
-            is_settled self.new other ≡ true }
     {
         'steps: while !self.is_settled(fact) {
             if !self.step(network) {
@@ -59,12 +49,8 @@ impl Settling {
     fn settle_goals(&mut self, network: &Network)
         requires facts { network.now.facts ≡ length self.old.costs }
         requires way { IsSettling network.now.unaries self.old }
-        ensures way { IsSettling network.now.unaries self.new }
+        ensures later { IsLater network.now.unaries self.old self.new }
         ensures goals { AreSettled network.now.goals self.new }
-        ensures from { (start without had : List ℕ) →
-            IsFrom network.now.unaries start without had self.old →
-            IsFrom network.now.unaries start without had self.new }
-        ensures long { length self.new.costs ≡ length self.old.costs }
     {
         for goal in network.relaxed().goals() {
             if !self.settle_until(network, *goal as usize) {

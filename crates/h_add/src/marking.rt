@@ -5,7 +5,7 @@ ghost use Rattle.relaxed_task.specs.Numbers.{is_among, number_by, numbers_by};
 ghost use Rattle.relaxed_task.specs.declared.unary.Unary.{Unary};
 ghost use Rattle.h_add.specs.Networks.{are_below};
 ghost use Rattle.h_add.specs.Settlements.{is_settled};
-ghost use Rattle.h_add.specs.UnderWay.{IsUnderWay, IsFresh, IsFrom};
+ghost use Rattle.h_add.specs.UnderWay.{IsUnderWay, IsFresh, IsFrom, HasMarked};
 
 use crate::network::Network;
 use crate::settling::Settling;
@@ -32,13 +32,7 @@ impl Settling {
     fn mark(&mut self, network: &Network, fact: usize)
         requires facts { network.now.facts ≡ length self.old.costs }
         requires way { IsUnderWay network.now.unaries 0 [] self.old }
-        ensures way { IsUnderWay network.now.unaries 0 [] self.new }
-        ensures from { (start without had : List ℕ) → fact < length self.old.costs →
-            is_among start fact ≡ true → self.old.order ≡ [] →
-            IsFrom network.now.unaries start without had self.old →
-            IsFrom network.now.unaries start without (had ++ fact ∷ []) self.new }
-        ensures order { self.new.order ≡ self.old.order }
-        ensures long { length self.new.costs ≡ length self.old.costs }
+        ensures { HasMarked network.now.unaries (fact ∷ []) self.old self.new }
     {
         if self.is_open(fact) {
             self.be_there(fact);
@@ -50,15 +44,7 @@ impl Settling {
     fn mark_all(&mut self, network: &Network, facts: &[u32])
         requires facts { network.now.facts ≡ length self.old.costs }
         requires way { IsUnderWay network.now.unaries 0 [] self.old }
-        ensures way { IsUnderWay network.now.unaries 0 [] self.new }
-        ensures from { (start without had : List ℕ) →
-            are_below (length self.old.costs) facts.now ≡ true →
-            ((fact : ℕ) → is_among facts.now fact ≡ true → is_among start fact ≡ true) →
-            self.old.order ≡ [] →
-            IsFrom network.now.unaries start without had self.old →
-            IsFrom network.now.unaries start without (had ++ facts.now) self.new }
-        ensures order { self.new.order ≡ self.old.order }
-        ensures long { length self.new.costs ≡ length self.old.costs }
+        ensures { HasMarked network.now.unaries facts.now self.old self.new }
     {
         for fact in facts {
             self.mark(network, *fact as usize);
@@ -69,16 +55,8 @@ impl Settling {
     fn mark_state(&mut self, network: &Network, state: &[u32])
         requires facts { network.now.facts ≡ length self.old.costs }
         requires way { IsUnderWay network.now.unaries 0 [] self.old }
-        ensures way { IsUnderWay network.now.unaries 0 [] self.new }
-        ensures from { (start without had : List ℕ) →
-            are_below (length self.old.costs) (numbers_by network.now.offsets state.now) ≡ true →
-            ((fact : ℕ) → is_among (numbers_by network.now.offsets state.now) fact ≡ true →
-            is_among start fact ≡ true) → self.old.order ≡ [] →
-            IsFrom network.now.unaries start without had self.old →
-            IsFrom network.now.unaries start without (had ++
-            numbers_by network.now.offsets state.now) self.new }
-        ensures order { self.new.order ≡ self.old.order }
-        ensures long { length self.new.costs ≡ length self.old.costs }
+        ensures { HasMarked network.now.unaries (numbers_by network.now.offsets state.now) self.old
+            self.new }
     {
         for (var, val) in state.iter().enumerate() {
             self.mark(network, network.relaxed().number(var, *val));
@@ -93,8 +71,7 @@ impl Settling {
         ensures from { (without : List ℕ) →
             are_below network.now.facts (numbers_by network.now.offsets state.now) ≡ true →
             ((fact : ℕ) → is_settled self.old fact ≡ is_among without fact) →
-            IsFrom network.now.unaries (numbers_by network.now.offsets state.now ++
-            network.now.defaults) without (numbers_by network.now.offsets state.now ++
+            IsFrom network.now.unaries without (numbers_by network.now.offsets state.now ++
             network.now.defaults) self.new }
         ensures long { length self.new.costs ≡ length self.old.costs }
     {

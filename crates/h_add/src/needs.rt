@@ -1,10 +1,10 @@
 // For each fact the unary operators that need it.
 ghost use Rattle.std.specs.Prelude.{◌≡◌, ◌+◌, ◌<◌, ◌^◌, ◌∷◌, ◌++◌, ℕ, List, length, IfOk, OnOk};
-ghost use Rattle.std.specs.Prelude.{IsTrue, true, slice_set, [], replicate};
+ghost use Rattle.std.specs.Prelude.{IsTrue, slice_set, [], replicate};
 ghost use Rattle.std.specs.List.{list_all};
 ghost use Rattle.lama_num.specs.Rows.{row_at};
 ghost use Rattle.relaxed_task.specs.Numbers.{is_unary_below};
-ghost use Rattle.h_add.specs.Networks.{IsNeeds, are_within, are_below, needed};
+ghost use Rattle.h_add.specs.Networks.{IsNeeds, are_below, needed};
 ghost use Rattle.h_add.specs.Listings.{Listed};
 
 use lama_num::{NoMemory, Rows, Seq};
@@ -70,8 +70,6 @@ fn add_each(lists: &mut [Seq<u32>], unaries: &[Unary], always: u32) -> Result<()
     requires facts { IsTrue (list_all (is_unary_below (length lists.old)) unaries.now) }
     ensures needs { OnOk result (((fact : ℕ) → row_at lists.old fact ≡ []) →
         IsNeeds unaries.now always lists.new) }
-    ensures within { OnOk result (list_all (are_within (length unaries.now)) lists.old ≡ true →
-        list_all (are_within (length unaries.now)) lists.new ≡ true) }
     ensures long { length lists.new ≡ length lists.old }
 {
     for (i, unary) in unaries.iter().enumerate() {
@@ -90,8 +88,6 @@ pub fn needs_of(alloc: Global, unaries: &[Unary], facts: u32) -> Result<Rows<u32
     requires facts { IsTrue (list_all (is_unary_below facts) unaries.now) }
     ensures needs { IfOk result (λ rows. IsNeeds unaries.now facts rows) }
     ensures long { IfOk result (λ rows. length rows ≡ facts + 1) }
-    ensures within { IfOk result
-        (λ rows. IsTrue (list_all (are_within (length unaries.now)) rows)) }
 {
     let mut lists = no_lists(alloc, facts as usize + 1)?;
     add_each(&mut lists, unaries, facts)?;

@@ -1,13 +1,14 @@
 // Facts are settled one after the other, the cheapest first.
 ghost use Rattle.std.specs.Prelude.{◌≡◌, ◌+◌, ◌≤◌, ◌<◌, ◌∷◌, ◌++◌, [], ℕ, List, length, true};
-ghost use Rattle.std.specs.Prelude.{false, replicate, slice_set, Some, None, IfOk, IsTrue};
-ghost use Rattle.std.specs.Prelude.{MatchOption, nat_eq, if◌then◌else◌};
+ghost use Rattle.std.specs.Prelude.{false, slice_set, Some, None, IfOk, IsTrue};
+ghost use Rattle.std.specs.Prelude.{MatchOption};
 ghost use Rattle.std.specs.Bool.{OnTrue, OnFalse};
 ghost use Rattle.cost_queue.specs.Queues.{price_of, IsPopped, IsIdle};
 ghost use Rattle.relaxed_task.specs.declared.unary.Unary.{Unary};
 ghost use Rattle.h_add.specs.Networks.{are_within};
-ghost use Rattle.h_add.specs.Settlements.{is_settled, open_at, offered, counted, settled_at};
-ghost use Rattle.h_add.specs.UnderWay.{IsUnderWay, IsSettling, IsFrom, IsFresh, HasCounted, Owes};
+ghost use Rattle.h_add.specs.Settlements.{is_settled, open_at, offered, counted, there_at};
+ghost use Rattle.h_add.specs.Settlements.{given_at};
+ghost use Rattle.h_add.specs.UnderWay.{IsUnderWay, IsSettling, IsLater, IsFresh, HasCounted, Owes};
 ghost use Rattle.h_add.specs.UnderWay.{left_to_do};
 
 use crate::network::{Network, Open};
@@ -49,35 +50,16 @@ impl Model for Settling {
         s.order.items (vec_capacity s.order) };
 }
 
-fn no_opens(alloc: Global, unaries: usize) -> Result<Vec<Open>, AllocError>
-    ensures { IfOk result (λ v. length v.items ≡ unaries) }
-{
-    vec![in alloc; Open { count: 0, sum: 0 }; unaries]
-}
-
-fn no_costs(alloc: Global, facts: usize) -> Result<Vec<u32>, AllocError>
-    ensures { IfOk result (λ v. length v.items ≡ facts) }
-{
-    vec![in alloc; INFINITE; facts]
-}
-
-fn no_flags(alloc: Global, facts: usize) -> Result<Vec<bool>, AllocError>
-    ensures { IfOk result (λ v. v.items ≡ replicate facts false) }
-{
-    vec![in alloc; false; facts]
-}
-
 impl Settling {
     /// Room for so many facts and unary operators.
     pub fn new(alloc: Global, facts: usize, unaries: usize) -> Result<Settling, AllocError>
-        requires { facts ≤ 4194304 }
         ensures facts { IfOk result (λ s. length s.costs ≡ facts) }
         ensures unaries { IfOk result (λ s. length s.opens ≡ unaries) }
         ensures order { IfOk result (λ s. s.order ≡ []) }
     {
-        let costs = no_costs(alloc, facts)?;
-        let settled = no_flags(alloc, facts)?;
-        let opens = no_opens(alloc, unaries)?;
+        let costs = vec![in alloc; INFINITE; facts]?;
+        let settled = vec![in alloc; false; facts]?;
+        let opens = vec![in alloc; Open { count: 0, sum: 0 }; unaries]?;
         let queue = CostQueue::new(alloc, unaries)?;
         let order = Vec::with_capacity(alloc, facts)?;
         Ok(Settling {
@@ -167,7 +149,7 @@ impl Settling {
     /// Lets a fact be there at no cost.
     pub fn be_there(&mut self, fact: usize)
         requires fact { fact < length self.old.costs }
-        ensures { self.new ≡ settled_at self.old fact 0 self.old.order }
+        ensures { self.new ≡ there_at self.old fact }
     {
         self.costs[fact] = 0;
         self.settled[fact] = true;
@@ -195,9 +177,9 @@ impl Settling {
         requires value { value ≤ 1000000000 }
         ensures counted { self.new ≡ counted self.old place value }
         ensures long { length self.old.waiting ≡ length self.old.opens }
-        ensures price { result ≡
-            (if nat_eq (open_at self.new place).count 0
-            then Some (open_at self.new place).sum else None) }
+        ensures price { MatchOption result (0 < (open_at self.new place).count)
+            (λ price. ((open_at self.new place).count ≡ 0) ×
+            (price ≡ (open_at self.new place).sum)) }
     {
         let open = self.opens[place];
         let left = Open {
@@ -221,7 +203,7 @@ impl Settling {
         ensures way { (owed : List ℕ) →
             IsUnderWay network.now.unaries value (place ∷ owed) self.old →
             IsUnderWay network.now.unaries value owed self.new }
-        ensures counted { HasCounted network.now.unaries self.old self.new }
+        ensures counted { HasCounted self.old self.new }
     {
         if let Some(price) = self.count(place as usize, value) {
             self.offer(network.gives(place as usize), place, price);
@@ -235,7 +217,7 @@ impl Settling {
         requires places { IsTrue (are_within (length network.now.unaries) places.now) }
         requires way { IsUnderWay network.now.unaries value places.now self.old }
         ensures way { IsUnderWay network.now.unaries value [] self.new }
-        ensures counted { HasCounted network.now.unaries self.old self.new }
+        ensures counted { HasCounted self.old self.new }
     {
         for place in places {
             self.meet(network, *place, value);
@@ -252,16 +234,14 @@ impl Settling {
         self.queue.pop()
     }
 
-    /// Lets a unary operator settle the fact that it gives.
-    fn give(&mut self, fact: usize, entry: Entry)
+    /// Lets a unary operator settle the fact that it gives, which costs its price already.
+    fn give(&mut self, fact: usize, place: u32)
         requires fact { fact < length self.old.costs }
         requires new { is_settled self.old fact ≡ false }
-        ensures { self.new ≡
-            settled_at self.old fact entry.price (self.old.order ++ entry.number ∷ []) }
+        ensures { self.new ≡ given_at self.old fact place }
     {
-        self.costs[fact] = entry.price;
         self.settled[fact] = true;
-        match self.order.push(entry.number) {
+        match self.order.push(place) {
             Ok(()) => {}
             Err(_) => unreachable!(),
         }
@@ -272,22 +252,16 @@ impl Settling {
     pub fn step(&mut self, network: &Network) -> bool
         requires facts { network.now.facts ≡ length self.old.costs }
         requires way { IsSettling network.now.unaries self.old }
-        ensures way { IsSettling network.now.unaries self.new }
-        ensures from { (start without had : List ℕ) →
-            IsFrom network.now.unaries start without had self.old →
-            IsFrom network.now.unaries start without had self.new }
-        ensures long { length self.new.costs ≡ length self.old.costs }
+        ensures later { IsLater network.now.unaries self.old self.new }
         ensures less { OnTrue result (left_to_do self.new < left_to_do self.old) }
         ensures idle { OnFalse result (IsIdle self.new.waiting) }
-        ensures stays { (fact : ℕ) → is_settled self.old fact ≡ true →
-            is_settled self.new fact ≡ true }
     {
         let Some(entry) = self.pop() else {
             return false;
         };
         let fact = network.gives(entry.number as usize) as usize;
         if !self.has_settled(fact) {
-            self.give(fact, entry);
+            self.give(fact, entry.number);
             self.walk(network, network.needs(fact), entry.price);
         }
         true

@@ -1,7 +1,5 @@
 // Sums of costs.
-ghost use Rattle.std.specs.Prelude.{◌≡◌, length, not, IsTrue};
-ghost use Rattle.std.specs.List.{list_any};
-ghost use Rattle.relaxed_task.specs.Estimates.{is_finite};
+ghost use Rattle.std.specs.Prelude.{◌≡◌, length, IsTrue};
 ghost use Rattle.relaxed_task.specs.Relaxing.{sum_of as total_of};
 ghost use Rattle.h_add.specs.Networks.{are_below};
 ghost use Rattle.h_add.specs.Values.{estimate_of, value_at};
@@ -46,16 +44,4 @@ pub fn value_of(costs: &[u32], fact: usize) -> Estimate
         Some(cost) => estimate(*cost),
         None => Estimate::Infinite,
     }
-}
-
-/// Whether some fact isn't reached.
-pub fn some_infinite(costs: &[u32], facts: &[u32]) -> bool
-    ensures { result ≡ list_any (λ fact. not (is_finite (value_at costs.now fact))) facts.now }
-{
-    for fact in facts {
-        if value_of(costs, *fact as usize) == Estimate::Infinite {
-            return true;
-        }
-    }
-    false
 }

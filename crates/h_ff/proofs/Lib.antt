@@ -1,6 +1,1 @@
-pub mod Grows
-pub mod Keeping
-pub mod Lists
-pub mod Marks
 pub mod Planning
-pub mod UsedOperators

@@ -1,42 +1,92 @@
--- What is needed of an order is a relaxed plan.
-use Rattle.relaxed_task.specs.Numbers.{over_numbers}
-use Rattle.std.proofs.Common.{◌≡◌, ◌∙◌, sym, ap, subst, refl, ℕ, ◌+◌, ◌≤◌, List, [], ◌∷◌, ◌++◌, length, length-append, Bool, true, false, nat_lt, ◌||◌, arith, map, reverse, if◌then◌else◌, Contains, Option, Some, None, slice_get, filter}
-use Rattle.sas_task.specs.declared.contents.CostKind.{CostKind}
+-- What is needed of an order of best supporters is a relaxed plan.
+use Rattle.std.proofs.Common.{◌≡◌, refl, ℕ, zero, suc, replicate, false, ◌∙◌, ◌<◌, List, length, get_or, true, Some, slice_get, sym, ap, ◌+◌, ◌≤◌, [], ◌∷◌, ◌++◌, take, length-append, drop, nat_eq, nat_lt, arith, if◌then◌else◌, Bool, ◌||◌, Option, None, subst, map, Contains, filter}
+use Rattle.h_ff.specs.Flags.{is_given}
+use Rattle.std.specs.List.{list_all}
+use Rattle.std.proofs.lemmas.Bool.{ltb-true}
+use Rattle.std.proofs.lemmas.List.{get_or_default, take_more}
+use Rattle.std.proofs.lemmas.Option.{slice_get_read, slice_get_past}
+use Rattle.relaxed_task.specs.Numbers.{is_below, over_numbers, is_among, numbers_of, by_number, numbered_unaries, costs_by}
+use Rattle.lama_num.specs.Lists.{list_all_get, both}
+use Rattle.std.proofs.lemmas.List.Elements.{filter_map-append}
+use Rattle.sas_task.specs.WellFormed.{IsWellFormed}
+use Rattle.sas_task.specs.States.{all_hold}
+use Rattle.sas_task.specs.declared.contents.Operator.{Operator}
 use Rattle.sas_task.specs.declared.contents.Parts.{Parts}
+use Rattle.axiom_eval.specs.Within.{is_within}
+use Rattle.state_step.specs.Steps.{is_applicable}
+use Rattle.sas_task.specs.Laws.{operator-at}
+use Rattle.sas_task.specs.Within.{all_facts_within}
+use Rattle.relaxed_task.specs.declared.unary.Unary.{Unary}
+use Rattle.h_ff.specs.Orders.{ops_of, IsPlanned, kept_places, is_needed}
+use Rattle.h_add.specs.Orders.{chosen, are_places, given_by, IsOrder}
+use Rattle.h_add.specs.Laws.{chosen_grows, finite_if_alive}
+use Rattle.std.specs.List.Sorted.{IsPermutation}
+use Rattle.std.proofs.lemmas.List.Folds.{list_all-append, list_any-append}
+use Rattle.std.proofs.lemmas.List.Sorted.{IsPermutation-refl, IsPermutation-trans, IsPermutation-append_left, IsPermutation-append_comm, Contains-permutation, IsPermutation-sym}
+use Rattle.relaxed_task.specs.Elements.{drop_within}
+use Rattle.relaxed_task.specs.Relaxing.{asked, kept, IsSupported}
+use Rattle.sas_task.specs.declared.contents.CostKind.{CostKind}
 use Rattle.sas_task.specs.declared.contents.Variable.{Variable}
 use Rattle.lama_num.specs.declared.estimates.Estimate.{Estimate}
 use Rattle.relaxed_task.specs.declared.relaxation.Lists.{Lists}
-use Rattle.relaxed_task.specs.declared.unary.Unary.{Unary}
-use Rattle.relaxed_task.specs.Numbers.{numbers_of}
-use Rattle.relaxed_task.specs.Numbers.{by_number, numbered_unaries}
+use Rattle.relaxed_task.specs.Estimates.{is_finite}
 use Rattle.relaxed_task.specs.Facts.{UnaryOperator, distinct_facts}
-use Rattle.relaxed_task.specs.Numbers.{is_among}
-use Rattle.h_add.specs.ByNumber.{start_facts}
+use Rattle.relaxed_task.specs.NumberLaws.{supported_by_facts, weaker}
+use Rattle.relaxed_task.specs.PlanLaws.{kept_is_supported}
 use Rattle.relaxed_task.specs.Reached.{IsDead}
 use Rattle.relaxed_task.specs.Relaxations.{IsRelaxed}
-use Rattle.relaxed_task.specs.Relaxing.{kept}
-use Rattle.relaxed_task.specs.Relaxing.{IsSupported}
-use Rattle.relaxed_task.specs.Numbers.{costs_by}
-use Rattle.relaxed_task.specs.NumberLaws.{supported_by_facts}
-use Rattle.state_step.specs.Steps.{is_applicable}
-use Rattle.h_add.specs.Laws.{finite_if_alive}
+use Rattle.h_add.specs.ByNumber.{start_facts}
 use Rattle.h_add.specs.Values.{value_at, IsEvaluated}
-use Rattle.h_ff.specs.Flags.{is_given}
-use Rattle.h_ff.specs.Orders.{kept_places, is_needed, ops_of}
-use Rattle.h_add.specs.Orders.{chosen, are_places, IsOrder}
 use Rattle.h_ff.specs.RelaxedPlans.{operators_of, AreEachOnce, HasPlan, cost_of}
-use Rattle.h_ff.proofs.Grows.{plan_of_order}
-use Rattle.h_ff.proofs.Keeping.{places_of_plan}
-use Rattle.h_ff.proofs.UsedOperators.{ops_reversed, ops_forward}
-use Rattle.lama_num.specs.Lists.{both}
 
-places_grow : (n : ℕ) (order : List ℕ) (i : ℕ) → are_places n order ≡ true → nat_lt i n ≡ true → are_places n (order ++ i ∷ []) ≡ true
-places_grow n [] i all lt = rw lt refl
-places_grow n (x ∷ order) i all lt =
-    let parts = both (nat_lt x n) (are_places n order) all in
-    rw parts.0 (places_grow n order i parts.1 lt)
+pub none_given : (n fact : ℕ) → is_given (replicate n false) fact ≡ false
+none_given zero fact = refl
+none_given (suc n) zero = refl
+none_given (suc n) (suc fact) = none_given n fact
 
--- those that are kept over_numbers are among the places, and no more
+pub at_place : {X : Type 0} (xs : List X) (i : ℕ) (x : X) → i < length xs → x ≡ get_or xs i x → slice_get xs i ≡ Some x
+at_place xs i x lt is = slice_get_read xs (length xs) i x refl lt is
+
+pub below_at : (n : ℕ) (facts : List ℕ) (i x : ℕ) → list_all (is_below n) facts ≡ true → i < length facts → x ≡ get_or facts i 0 → x < n
+below_at n facts i x all lt at = ltb-true x n (list_all_get (is_below n) facts i x all (at_place facts i x lt (at ∙ get_or_default facts i 0 x lt)))
+
+-- one place more
+pub ops_more : (unaries : List Unary) (places : List ℕ) (k place : ℕ) (u : Unary) → k < length places → place ≡ get_or places k 0 → slice_get unaries place ≡ Some u →
+    ops_of (chosen unaries (take k places)) ++ ops_of (u ∷ []) ≡ ops_of (chosen unaries (take (k + 1) places))
+ops_more unaries places k place u lt here at =
+    sym (filter_map-append (λ x. x.op) (chosen unaries (take k places)) (u ∷ []))
+    ∙ (ap ops_of (sym (chosen_grows unaries (take k places) place u at)) ∙ ap (λ (xs : List ℕ). ops_of (chosen unaries xs)) (ap (λ (n : ℕ). take k places ++ n ∷ []) here ∙ sym (take_more places k 0 lt)))
+
+-- the conditions of an operator are on variables of the state
+pub conditions_within : (parts : Parts) (state : List ℕ) (op : ℕ) (o : Operator) → IsWellFormed parts → length state ≡ length parts.variables → slice_get parts.operators op ≡ Some o → list_all (is_within (length state)) o.pre ≡ true
+conditions_within parts state op o formed long at = rw long (all_facts_within parts.variables o.pre (operator-at parts op o formed at).pre)
+
+pub applicable_some : (parts : Parts) (state : List ℕ) (op : ℕ) (o : Operator) → slice_get parts.operators op ≡ Some o → is_applicable parts state op ≡ all_hold state o.pre
+applicable_some parts state op o at = rw at refl
+
+pub applicable_none : (parts : Parts) (state : List ℕ) (op : ℕ) → length parts.operators ≤ op → is_applicable parts state op ≡ false
+applicable_none parts state op past = rw (slice_get_past parts.operators op past) refl
+
+-- whether one is needed
+needs : (unaries : List Unary) (goals rest : List ℕ) (marks : List Bool) (plan : List ℕ) (u : Unary) (flag : Bool) → is_given marks u.gives ≡ flag → IsPlanned unaries goals rest marks plan → is_among (asked over_numbers goals (kept over_numbers goals (chosen unaries rest))) u.gives ≡ flag
+needs unaries goals rest marks plan u flag flagged is = sym (is.marked u.gives) ∙ flagged
+
+pub one_kept : (unaries : List Unary) (goals order : List ℕ) (k : ℕ) (marks now : List Bool) (plan : List ℕ) (place : ℕ) (u : Unary) → k < length order → place ≡ get_or order k 0 → slice_get unaries place ≡ Some u → is_given marks u.gives ≡ true →
+    ((fact : ℕ) → is_given now fact ≡ (is_among u.conds fact || is_given marks fact)) → IsPlanned unaries goals (drop (k + 1) order) marks plan → IsPlanned unaries goals (drop k order) now (plan ++ place ∷ [])
+one_kept unaries goals order k marks now plan place u lt here at flag more is =
+    let test = needs unaries goals (drop (k + 1) order) marks plan u true flag is in
+    rw (drop_within order k place lt here) (record {
+      marked = λ fact. rw (at, test) (more fact ∙ (ap (λ (b : Bool). is_among u.conds fact || b) (is.marked fact) ∙ sym (list_any-append (nat_eq fact) u.conds (asked over_numbers goals (kept over_numbers goals (chosen unaries (drop (k + 1) order)))))));
+      kept = ap (λ (xs : List ℕ). xs ++ place ∷ []) is.kept ∙ rw (at, test) refl;
+    })
+
+pub none_kept : (unaries : List Unary) (goals order : List ℕ) (k : ℕ) (marks : List Bool) (plan : List ℕ) (place : ℕ) (u : Unary) → k < length order → place ≡ get_or order k 0 → slice_get unaries place ≡ Some u → is_given marks u.gives ≡ false →
+    IsPlanned unaries goals (drop (k + 1) order) marks plan → IsPlanned unaries goals (drop k order) marks plan
+none_kept unaries goals order k marks plan place u lt here at flag is =
+    let test = needs unaries goals (drop (k + 1) order) marks plan u false flag is in
+    rw (drop_within order k place lt here) (record { marked = λ fact. rw (at, test) (is.marked fact); kept = is.kept ∙ rw (at, test) refl })
+
+-- those that are kept are among the places, and no more
 pub kept_within : (unaries : List Unary) (goals order : List ℕ) (n : ℕ) → are_places n order ≡ true → are_places n (kept_places unaries goals order) ≡ true
 kept_within unaries goals [] n all = refl
 kept_within unaries goals (i ∷ order) n all = by_test (is_needed unaries goals i order) (kept_within unaries goals order n parts.1)
@@ -45,25 +95,47 @@ kept_within unaries goals (i ∷ order) n all = by_test (is_needed unaries goals
     parts = both (nat_lt i n) (are_places n order) all
 
     by_test : (b : Bool) → are_places n (kept_places unaries goals order) ≡ true → are_places n (if b then kept_places unaries goals order ++ i ∷ [] else kept_places unaries goals order) ≡ true
-    by_test true rest = places_grow n (kept_places unaries goals order) i rest parts.0
+    by_test true rest = rw (list_all-append (λ k. nat_lt k n) (kept_places unaries goals order) (i ∷ []), rest, parts.0) refl
     by_test false rest = rest
 
 pub kept_few : (unaries : List Unary) (goals order : List ℕ) → length (kept_places unaries goals order) ≤ length order
 kept_few unaries goals [] = omega arith
-kept_few unaries goals (i ∷ order) = let le = by_test (is_needed unaries goals i order) (kept_few unaries goals order) in omega arith
+kept_few unaries goals (i ∷ order) = by_test (is_needed unaries goals i order) (kept_few unaries goals order)
   where
-    by_test : (b : Bool) → length (kept_places unaries goals order) ≤ length order → length (if b then kept_places unaries goals order ++ i ∷ [] else kept_places unaries goals order) ≤ length order + 1
+    by_test : (b : Bool) → length (kept_places unaries goals order) ≤ length order → length (if b then kept_places unaries goals order ++ i ∷ [] else kept_places unaries goals order) ≤ length (i ∷ order)
     by_test true rest = let one = length-append (kept_places unaries goals order) (i ∷ []) in omega arith
     by_test false rest = omega arith
+
+-- they have the operators of the relaxed plan, in another order
+pub kept_ops : (unaries : List Unary) (goals order : List ℕ) → IsPermutation (ops_of (chosen unaries (kept_places unaries goals order))) (ops_of (kept over_numbers goals (chosen unaries order)))
+kept_ops unaries goals [] = IsPermutation-refl []
+kept_ops unaries goals (i ∷ order) = by_unary (slice_get unaries i) refl (kept_ops unaries goals order)
+  where
+    by_test : (u : Unary) → slice_get unaries i ≡ Some u → (b : Bool) → is_among (asked over_numbers goals (kept over_numbers goals (chosen unaries order))) u.gives ≡ b → IsPermutation (ops_of (chosen unaries (kept_places unaries goals order))) (ops_of (kept over_numbers goals (chosen unaries order))) →
+        IsPermutation (ops_of (chosen unaries (kept_places unaries goals (i ∷ order)))) (ops_of (kept over_numbers goals (chosen unaries (i ∷ order))))
+    by_test u at true test rest =
+        rw (at, test) (rw (ap ops_of (chosen_grows unaries (kept_places unaries goals order) i u at) ∙ filter_map-append (λ x. x.op) (chosen unaries (kept_places unaries goals order)) (u ∷ []), filter_map-append (λ x. x.op) (u ∷ []) (kept over_numbers goals (chosen unaries order)))
+        (IsPermutation-trans _ _ _ (IsPermutation-append_left (ops_of (u ∷ [])) _ _ rest) (IsPermutation-append_comm (ops_of (kept over_numbers goals (chosen unaries order))) (ops_of (u ∷ [])))))
+    by_test u at false test rest = rw (at, test) rest
+
+    by_unary : (o : Option Unary) → slice_get unaries i ≡ o → IsPermutation (ops_of (chosen unaries (kept_places unaries goals order))) (ops_of (kept over_numbers goals (chosen unaries order))) →
+        IsPermutation (ops_of (chosen unaries (kept_places unaries goals (i ∷ order)))) (ops_of (kept over_numbers goals (chosen unaries (i ∷ order))))
+    by_unary None at rest = rw at rest
+    by_unary (Some u) at rest = by_test u at (is_among (asked over_numbers goals (kept over_numbers goals (chosen unaries order))) u.gives) refl rest
 
 -- their operators are those of the relaxed plan
 pub planned : (unaries : List Unary) (goals order places ops : List ℕ) → places ≡ kept_places unaries goals order → ((op : ℕ) → (Contains ops op → Contains (ops_of (chosen unaries places)) op) × (Contains (ops_of (chosen unaries places)) op → Contains ops op)) →
     (op : ℕ) → (Contains ops op → Contains (ops_of (kept over_numbers goals (chosen unaries order))) op) × (Contains (ops_of (kept over_numbers goals (chosen unaries order))) op → Contains ops op)
-planned unaries goals order places ops is same op =
-    let back : chosen unaries places ≡ reverse (kept over_numbers goals (chosen unaries order)) = ap (chosen unaries) is ∙ places_of_plan unaries goals order in (
-      (λ h. ops_reversed (kept over_numbers goals (chosen unaries order)) op (subst (λ (list : List Unary). Contains (ops_of list) op) back ((same op).0 h))),
-      (λ h. (same op).1 (subst (λ (list : List Unary). Contains (ops_of list) op) (sym back) (ops_forward (kept over_numbers goals (chosen unaries order)) op h))),
-    )
+planned unaries goals order places ops is same op = (
+  λ h. Contains-permutation _ _ op (kept_ops unaries goals order) (subst (λ (xs : List ℕ). Contains (ops_of (chosen unaries xs)) op) is ((same op).0 h)),
+  λ h. (same op).1 (subst (λ (xs : List ℕ). Contains (ops_of (chosen unaries xs)) op) (sym is) (Contains-permutation _ _ op (IsPermutation-sym _ _ (kept_ops unaries goals order)) h)),
+)
+
+-- the goal facts are given by an order of best supporters, so that what is needed of it is a relaxed plan
+plan_of_order : (unaries : List Unary) (start : List ℕ) (costs : ℕ → Estimate) (order goals : List ℕ) → IsOrder unaries start costs order → list_all (λ fact. is_finite (costs fact)) goals ≡ true →
+    IsSupported over_numbers unaries start costs goals (kept over_numbers goals (chosen unaries order))
+plan_of_order unaries start costs order goals is finite =
+    kept_is_supported over_numbers goals unaries start costs (chosen unaries order) is.best is.in_order (weaker (λ fact. is_finite (costs fact)) (is_among (start ++ given_by (chosen unaries order))) goals is.given finite)
 
 supported_as : (unaries other : List Unary) (goals more start : List ℕ) (costs : ℕ → Estimate) (list : List Unary) → unaries ≡ other → goals ≡ more → IsSupported over_numbers unaries start costs goals list → IsSupported over_numbers other start costs more list
 supported_as unaries other goals more start costs list a b is =

@@ -30,3 +30,8 @@ kept_places unaries goals (i ∷ order) = if is_needed unaries goals i order the
 -- what is marked: the goal facts and the conditions of what is kept
 abbrev pub AreMarked : List Unary → List ℕ → List ℕ → List Bool → Type 0
 AreMarked unaries goals order marks = (fact : ℕ) → is_given marks fact ≡ is_among (asked over_numbers goals (kept over_numbers goals (chosen unaries order))) fact
+
+-- the marks and the plan after those of an order that were looked at
+pub record IsPlanned (unaries : List Unary) (goals order : List ℕ) (marks : List Bool) (plan : List ℕ) : Type 0 where
+  pub marked : AreMarked unaries goals order marks
+  pub kept : plan ≡ kept_places unaries goals order

@@ -47,22 +47,6 @@ impl Model for Ff {
     ghost invariant = { λ f. IsKept f.add.relaxed f.plan };
 }
 
-/// The evaluator over an additive one.
-fn planner(alloc: Global, add: Add, kind: CostKind) -> Result<Ff, NoMemory>
-    ensures { IfOk result (λ ff. ff ≡
-        record {
-          relaxed = add.relaxed;
-          costs = add.costs;
-          kind = kind;
-          plan = [];
-          preferred = [];
-        }) }
-{
-    let facts = add.relaxed().facts() as usize;
-    let plan = RelaxedPlan::new(alloc, facts)?;
-    Ok(Ff { add, kind, plan })
-}
-
 impl Ff {
     /// The evaluator of a task, with operators that cost what a kind of cost says.
     pub fn new(alloc: Global, task: &Task, kind: CostKind) -> Result<Ff, NoMemory>
@@ -72,7 +56,8 @@ impl Ff {
         ensures preferred { IfOk result (λ ff. ff.preferred ≡ []) }
     {
         let add = Add::new(alloc, task, kind)?;
-        planner(alloc, add, kind)
+        let plan = RelaxedPlan::new(alloc, add.relaxed().facts() as usize)?;
+        Ok(Ff { add, kind, plan })
     }
 
     /// The estimate of a state of the task: what the operators of a relaxed plan cost together,

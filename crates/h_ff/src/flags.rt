@@ -1,19 +1,10 @@
 // Flags for facts, and lists with room.
 ghost use Rattle.std.specs.Prelude.{◌≡◌, ◌<◌, ◌≤◌, ◌∷◌, ◌++◌, ◌||◌, [], ℕ, length, true, false};
-ghost use Rattle.std.specs.Prelude.{IsTrue, IfOk, replicate, vec_len, vec_capacity};
+ghost use Rattle.std.specs.Prelude.{IsTrue, vec_len, vec_capacity};
 ghost use Rattle.std.specs.List.{list_all};
 ghost use Rattle.relaxed_task.specs.Numbers.{is_below};
 ghost use Rattle.relaxed_task.specs.Numbers.{is_among};
 ghost use Rattle.h_ff.specs.Flags.{is_given};
-
-use std::alloc::{AllocError, Global};
-
-/// So many flags that aren't set.
-pub fn no_flags(alloc: Global, count: usize) -> Result<Vec<bool>, AllocError>
-    ensures { IfOk result (λ v. v.items ≡ replicate count false) }
-{
-    vec![in alloc; false; count]
-}
 
 pub fn flag(flags: &[bool], fact: u32) -> bool
     ensures { result ≡ is_given flags.now fact }

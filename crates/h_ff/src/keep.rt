@@ -5,7 +5,7 @@ ghost use Rattle.std.specs.List.{list_all};
 ghost use Rattle.relaxed_task.specs.Numbers.{is_among};
 ghost use Rattle.relaxed_task.specs.Numbers.{is_unary_below};
 ghost use Rattle.h_ff.specs.Flags.{is_given};
-ghost use Rattle.h_ff.specs.Orders.{AreMarked, kept_places};
+ghost use Rattle.h_ff.specs.Orders.{IsPlanned, kept_places};
 ghost use Rattle.h_add.specs.Orders.{are_places};
 
 use crate::flags::{flag, flag_all, push_in};
@@ -17,13 +17,9 @@ fn keep_last(unaries: &[Unary], order: &[u32], k: usize, marks: &mut [bool], pla
     requires places { IsTrue (are_places (length unaries.now) order.now) }
     requires facts { IsTrue (list_all (is_unary_below (length marks.old)) unaries.now) }
     requires room { vec_len plan.old + k < vec_capacity plan.old }
-    ensures marks { (goals : List ℕ) →
-        AreMarked unaries.now goals (drop (k + 1) order.now) marks.old →
-        AreMarked unaries.now goals (drop k order.now) marks.new }
-    ensures plan { (goals : List ℕ) →
-        AreMarked unaries.now goals (drop (k + 1) order.now) marks.old →
-        plan.old.items ≡ kept_places unaries.now goals (drop (k + 1) order.now) →
-        plan.new.items ≡ kept_places unaries.now goals (drop k order.now) }
+    ensures kept { (goals : List ℕ) →
+        IsPlanned unaries.now goals (drop (k + 1) order.now) marks.old plan.old.items →
+        IsPlanned unaries.now goals (drop k order.now) marks.new plan.new.items }
     ensures room { vec_len plan.new + k ≤ vec_capacity plan.new }
     ensures capacity { vec_capacity plan.old ≤ vec_capacity plan.new }
 {

@@ -8,7 +8,7 @@ ghost use Rattle.h_ff.specs.Orders.{ops_of};
 ghost use Rattle.h_add.specs.Orders.{chosen, are_places};
 ghost use Rattle.h_ff.specs.RelaxedPlans.{AreEachOnce};
 
-use crate::flags::{clear_all, flag_all, no_flags};
+use crate::flags::{clear_all, flag_all};
 use crate::keep::keep_needed;
 use crate::operators::{operators_into, preferred_into};
 use relaxed_task::Relaxed;
@@ -80,7 +80,7 @@ impl RelaxedPlan {
         ensures operators { IfOk result (λ plan. plan.operators ≡ []) }
         ensures preferred { IfOk result (λ plan. plan.preferred ≡ []) }
     {
-        let marks = no_flags(alloc, facts)?;
+        let marks = vec![in alloc; false; facts]?;
         let needed = Vec::with_capacity(alloc, facts)?;
         let operators = Vec::with_capacity(alloc, facts)?;
         let preferred = Vec::with_capacity(alloc, facts)?;

@@ -1,6 +1,6 @@
 use Rattle.std.proofs.Common.{◌∙◌, ap, length, Bool, List, rules}
 use Rattle.h_ff.specs.Flags.{is_given}
-use Rattle.h_ff.proofs.Marks.{none_given}
+use Rattle.h_ff.proofs.Planning.{none_given}
 use Rattle.h_ff.proofs.flags.clear_all.Goals as goal
 
 pub returns : goal.returns

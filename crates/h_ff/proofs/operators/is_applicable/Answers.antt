@@ -1,5 +1,5 @@
 use Rattle.std.proofs.Common.{◌≡◌, Some, slice_get}
-use Rattle.h_ff.proofs.UsedOperators.{conditions_within}
+use Rattle.h_ff.proofs.Planning.{conditions_within}
 use Rattle.h_ff.proofs.operators.is_applicable.Goals as goal
 
 pub all_hold-requires : goal.all_hold-requires

@@ -1,6 +1,6 @@
-use Rattle.std.proofs.Common.{◌≡◌, ◌<◌, refl, None, length, slice_set, arith}
+use Rattle.std.proofs.Common.{rules, ◌≡◌, ◌<◌, refl, None, length, slice_set, arith}
 use Rattle.cost_queue.specs.Laws.{there}
-use Rattle.cost_queue.proofs.Whole.{are_long, taken_low, popped_low, all_high, stands_for}
+use Rattle.cost_queue.proofs.Keeping.{are_long, taken_low, popped_low, all_high, stands_for}
 use Rattle.cost_queue.proofs.queue.CostQueue.pop_low.Goals as goal
 
 pub first_low-requires-clause-within : goal.first_low-requires-clause-within
@@ -25,11 +25,8 @@ invariant_of-self-inside c = ((slice_set c.self.inside.prices.0 c.in-Some.entry.
 pub returns-in-Some : goal.returns-in-Some
 returns-in-Some c =
     let taken = taken_low _ _ _ _ _ c.in-Some.entry _ _ _ c.self.inside.prices c.deref.ensures.value c.in-Some.ensures.some c.in-Some.ensures.none in
-    rw (← c.self.view_is) (record {
-      waited = taken.waited;
-      rest = stands_for _ _ _ _ _ _ _ c.self-in-Some-1.given.0 _ (popped_low _ _ _ _ _ c.in-Some.entry _ _ _ _ c.self.inside.prices c.deref.ensures.value c.in-Some.ensures.some c.in-Some.ensures.none c.index.ensures);
-      least = taken.least;
-    })
+    let is = popped_low _ _ _ _ _ c.in-Some.entry _ _ _ _ c.self.inside.prices c.deref.ensures.value c.in-Some.ensures.some c.in-Some.ensures.none c.index.ensures in
+    rw (← c.self.view_is) (record { waited = taken.waited; rest = search (rules, stands_for, is); least = taken.least })
 
 pub returns-in-None : goal.returns-in-None
 returns-in-None c = (refl, rw (← c.self.view_is) (all_high _ _ _ _ _ _ _ _ c.self.inside.prices c.deref.ensures.value c.in-None.ensures.none))

@@ -1,7 +1,7 @@
-use Rattle.std.proofs.Common.{◌≡◌, ◌<◌, ◌∙◌, None, Some, length, slice_set, get_or, arith}
+use Rattle.std.proofs.Common.{rules, ◌≡◌, ◌<◌, ◌∙◌, None, Some, length, slice_set, get_or, arith}
 use Rattle.std.proofs.lemmas.List.{get_or_default}
 use Rattle.cost_queue.specs.Queues.{price_of}
-use Rattle.cost_queue.proofs.Whole.{are_long, pushed_low, stands_for}
+use Rattle.cost_queue.proofs.Keeping.{are_long, pushed_low, stands_for}
 use Rattle.cost_queue.proofs.queue.CostQueue.push_low.Goals as goal
 
 pub index-requires : goal.index-requires
@@ -38,4 +38,5 @@ returns c =
     let lt : c.args.number < length c.self.inside.prices.0 = rw c.self.view_is c.requires.there in
     let within : c.args.price < length c.self.inside.heads.items = omega arith in
     let head : c.index.result.now ≡ get_or c.self.inside.heads.items c.args.price None = c.index.ensures ∙ get_or_default _ _ _ None within in
-    rw (← c.self.view_is) (stands_for _ _ _ _ _ _ _ c.self-3-1.given.0 _ (rw c.to.ensures (pushed_low _ _ _ _ _ _ _ _ _ _ _ _ c.self.inside.prices lt none c.requires.low head c.min-self-inside.ensures c.raise.ensures)))
+    let is = rw (← c.to.ensures) at (pushed_low _ _ _ _ _ _ _ _ _ _ _ _ c.self.inside.prices lt none c.requires.low head c.min-self-inside.ensures c.raise.ensures) in
+    rw (← c.self.view_is) (search (rules, stands_for, is))

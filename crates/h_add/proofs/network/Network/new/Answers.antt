@@ -1,4 +1,4 @@
-use Rattle.std.proofs.Common.{◌≡◌, ◌∙◌, length, map, arith}
+use Rattle.std.proofs.Common.{◌≡◌, map}
 use Rattle.h_add.proofs.Growing.{gives_below}
 use Rattle.h_add.proofs.network.Network.new.Goals as goal
 
@@ -12,5 +12,4 @@ invariant_of-result c =
       opens_are = rw c.unary-3.ensures.unaries at c.in_ok-opens.ensures;
       needs_are = rw (c.unary-4.ensures.unaries, c.facts.ensures.facts) at c.in_ok-needs.ensures.needs;
       needs_long = rw c.facts.ensures.facts at c.in_ok-needs.ensures.long;
-      needs_within = rw c.unary-4.ensures.unaries at c.in_ok-needs.ensures.within;
     }

@@ -1,9 +1,8 @@
-use Rattle.std.proofs.Common.{◌≡◌, ◌<◌, ◌∙◌, ap, subst, sym, ℕ, List, length, map, take, get_or, refl, arith}
-use Rattle.std.proofs.lemmas.List.{length-map, take_all}
+use Rattle.std.proofs.Common.{◌<◌, ◌∙◌, ap, sym, ℕ, List, length, map, refl, arith}
+use Rattle.std.proofs.lemmas.List.{get_or-map, length-map, take_all}
 use Rattle.relaxed_task.specs.Numbers.{number_by, is_among}
-use Rattle.h_add.specs.Settlements.{is_settled}
 use Rattle.h_add.proofs.Growing.{below_at}
-use Rattle.h_add.proofs.Starting.{out_more, map_read}
+use Rattle.h_add.proofs.Steps.{out_more}
 use Rattle.h_add.proofs.settling.Settling.leave_all_out.Goals as goal
 
 pub loop-fact-init : goal.loop-fact-init
@@ -15,7 +14,7 @@ loop-fact-preserved c = record {
   out = λ below none.
       (let lt : c.loop-fact.fact-index < length c.args.excluded.now = omega arith in
       let within : c.loop-fact.fact-index < length (map (number_by c.args.network.now.offsets) c.args.excluded.now) = omega (arith, length-map c.args.excluded.now (number_by c.args.network.now.offsets)) in
-      let at = (rw c.relaxed.ensures at c.number.ensures) ∙ (map_read (number_by c.args.network.now.offsets) c.args.excluded.now c.loop-fact.fact-index _ lt) in
+      let at = (rw c.relaxed.ensures at c.number.ensures) ∙ sym (get_or-map (number_by c.args.network.now.offsets) c.args.excluded.now c.loop-fact.fact-index _ 0 lt) in
       let there = below_at _ _ _ _ below within at in
       out_more (map (number_by c.args.network.now.offsets) c.args.excluded.now) _ _ c.loop-fact.fact-index c.number.result within at (omega (arith, there, c.leave_out.ensures.facts, c.loop-fact.invariant.long))
       (c.leave_out.ensures.out (omega (arith, there, c.loop-fact.invariant.long))) (c.loop-fact.invariant.out below none));

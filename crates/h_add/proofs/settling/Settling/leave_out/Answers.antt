@@ -1,6 +1,6 @@
 use Rattle.std.proofs.Common.{true, arith}
 use Rattle.std.proofs.lemmas.List.{length-set}
-use Rattle.h_add.proofs.Starting.{fewer_or_same}
+use Rattle.h_add.proofs.Steps.{fewer_or_same}
 use Rattle.h_add.proofs.settling.Settling.leave_out.Goals as goal
 
 pub invariant_of-self : goal.invariant_of-self
@@ -8,7 +8,6 @@ invariant_of-self c =
     let flags = length-set c.self.inside.settled.items c.args.fact true in
     let fewer = fewer_or_same c.self.inside.settled.items c.args.fact in
     record {
-      few = c.self.invariant.few;
       settled_long = omega (arith, flags, c.self.invariant.settled_long);
       waiting_long = c.self.invariant.waiting_long;
       order_count = omega (arith, fewer, c.self.invariant.order_count);

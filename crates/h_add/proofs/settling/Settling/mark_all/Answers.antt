@@ -1,23 +1,15 @@
-use Rattle.std.proofs.Common.{◌<◌, ◌∙◌, length, refl, arith}
-use Rattle.h_add.proofs.Growing.{below_at}
-use Rattle.h_add.proofs.Starting.{more_from, all_from, first_from, stands}
+use Rattle.std.proofs.Common.{◌∙◌, sym, refl, arith}
+use Rattle.h_add.proofs.Steps.{none_marked, taken_marked, all_marked}
 use Rattle.h_add.proofs.settling.Settling.mark_all.Goals as goal
 
 pub loop-fact-init : goal.loop-fact-init
-loop-fact-init c = record { way = c.requires.way; from = λ start without had below begins none from. first_from _ start without had c.args.facts.now _ from; order = refl; long = refl }
+loop-fact-init c = none_marked _ _ c.requires.way
+
+pub mark-requires-clause-facts : goal.mark-requires-clause-facts
+mark-requires-clause-facts c = c.requires.facts ∙ sym c.loop-fact.invariant.long
 
 pub loop-fact-preserved : goal.loop-fact-preserved
-loop-fact-preserved c = record {
-  way = c.mark.ensures.way;
-  from = λ start without had below begins none from.
-      (let lt : c.loop-fact.fact-index < length c.args.facts.now = omega arith in
-      let there = below_at _ _ _ _ below lt refl in
-      more_from _ start without had c.args.facts.now _ _ c.loop-fact.fact-index _ lt refl
-      (c.mark.ensures.from start without _ (omega (arith, there, c.loop-fact.invariant.long)) (begins _ (stands c.args.facts.now c.loop-fact.fact-index _ lt refl)) (c.loop-fact.invariant.order ∙ none))
-      (c.loop-fact.invariant.from start without had below begins none from));
-  order = c.mark.ensures.order ∙ c.loop-fact.invariant.order;
-  long = c.mark.ensures.long ∙ c.loop-fact.invariant.long;
-}
+loop-fact-preserved c = taken_marked _ c.args.facts.now c.loop-fact.fact-index _ _ _ _ (omega arith) refl c.loop-fact.invariant c.mark.ensures
 
-pub returns-clause-from : goal.returns-clause-from
-returns-clause-from c start without had below begins none from = all_from _ start without had c.args.facts.now _ c.loop-fact.fact-index (omega arith) (c.loop-fact.invariant.from start without had below begins none from)
+pub returns : goal.returns
+returns c = all_marked _ c.args.facts.now c.loop-fact.fact-index _ _ (omega arith) c.loop-fact.invariant

@@ -1,4 +1,4 @@
-use Rattle.std.proofs.Common.{◌≡◌, ◌∙◌, sym, ap, None, arith, length}
+use Rattle.std.proofs.Common.{◌∙◌, ap, arith}
 use Rattle.cost_queue.specs.Queues.{price_of}
 use Rattle.h_add.specs.Settlements.{Settlement}
 use Rattle.h_add.proofs.Counting.{met_all, met_some, counts_some, counts_idle}

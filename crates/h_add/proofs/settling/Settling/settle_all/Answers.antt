@@ -1,12 +1,11 @@
-use Rattle.std.proofs.Common.{◌∙◌}
+use Rattle.h_add.proofs.Steps.{later_more, now_later}
 use Rattle.h_add.proofs.settling.Settling.settle_all.Goals as goal
 
-pub steps-preserved : goal.steps-preserved
-steps-preserved c = record {
-  way = c.steps-test.ensures.way;
-  from = λ start without had from. c.steps-test.ensures.from start without had (c.steps.invariant.from start without had from);
-  long = c.steps-test.ensures.long ∙ c.steps.invariant.long;
-}
+pub steps-init : goal.steps-init
+steps-init c = now_later _ _ c.requires.way
 
-pub returns-clause-from : goal.returns-clause-from
-returns-clause-from c start without had from = c.steps-test.ensures.from start without had (c.steps.invariant.from start without had from)
+pub steps-preserved : goal.steps-preserved
+steps-preserved c = later_more _ _ _ _ c.steps.invariant c.steps-test.ensures.later
+
+pub returns-clause-later : goal.returns-clause-later
+returns-clause-later c = later_more _ _ _ _ c.steps.invariant c.steps-test.ensures.later

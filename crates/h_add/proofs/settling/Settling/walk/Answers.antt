@@ -1,11 +1,10 @@
-use Rattle.std.proofs.Common.{◌≡◌, ◌<◌, ◌∷◌, ◌+◌, drop, length, refl, arith}
+use Rattle.std.proofs.Common.{◌<◌, ◌+◌, drop, length, refl, arith}
 use Rattle.relaxed_task.specs.Elements.{drop_within}
-use Rattle.h_add.specs.UnderWay.{IsUnderWay}
-use Rattle.h_add.proofs.Counting.{one_met, all_met, counted_more, none_counted}
+use Rattle.h_add.proofs.Counting.{one_met, all_met, counted_more}
 use Rattle.h_add.proofs.settling.Settling.walk.Goals as goal
 
 pub loop-place-init : goal.loop-place-init
-loop-place-init c = record { way = c.requires.way; counted = none_counted _ _ }
+loop-place-init c = record { way = c.requires.way; counted = record { settled = refl; order = refl; costs_long = refl; waiting_long = refl; kept = λ fact is. refl } }
 
 pub meet-requires-clause-facts : goal.meet-requires-clause-facts
 meet-requires-clause-facts c = omega (arith, c.requires.facts, c.loop-place.invariant.counted.costs_long)
@@ -20,7 +19,7 @@ loop-place-preserved c =
     let lt : c.loop-place.place-index < length c.args.places.now = omega arith in
     record {
       way = one_met _ _ c.args.places.now _ _ c.loop-place.place-index _ lt refl c.meet.ensures.way c.loop-place.invariant.way;
-      counted = counted_more _ _ _ _ c.loop-place.invariant.counted c.meet.ensures.counted;
+      counted = counted_more _ _ _ c.loop-place.invariant.counted c.meet.ensures.counted;
     }
 
 pub returns-clause-way : goal.returns-clause-way

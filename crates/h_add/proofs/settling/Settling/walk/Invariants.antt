@@ -5,5 +5,5 @@ use Rattle.h_add.proofs.settling.Settling.walk.Given as goal
 abbrev pub invariant-loop-place : goal.invariant-loop-place
 invariant-loop-place l = record {
   way : IsUnderWay l.network.unaries l.value (drop l.place-index l.places) l.self;
-  counted : HasCounted l.network.unaries l.fn.self l.self;
+  counted : HasCounted l.fn.self l.self;
 }

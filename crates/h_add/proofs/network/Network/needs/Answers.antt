@@ -1,0 +1,5 @@
+use Rattle.h_add.proofs.Growing.{row_within}
+use Rattle.h_add.proofs.network.Network.needs.Goals as goal
+
+pub returns-clause-within : goal.returns-clause-within
+returns-clause-within c = rw (← c.self.view_is, c.row.ensures) (row_within _ _ _ _ (c.self.invariant.needs_are _))
