@@ -2,8 +2,10 @@
 // test has nothing to carry.
 use lama_num::NoMemory;
 use lm_backchain::landmarks;
-use lm_graph::{Graph, Node};
-use sas_task::Task;
+use lm_graph::{Graph, Node, Order};
+use lm_orders::add_reasonable;
+use lm_status::Status;
+use sas_task::{CostKind, Task};
 use std::alloc::{AllocError, Global};
 
 /// In place of a cost that isn't there.
@@ -62,13 +64,44 @@ pub fn nodes(alloc: Global, task: &Task) -> Result<Vec<u32>, NoMemory> {
     Ok(answers)
 }
 
+// The landmarks with all their orders.
+fn ordered(alloc: Global, task: &Task) -> Result<Graph, NoMemory> {
+    let mut graph = landmarks(alloc, task)?;
+    add_reasonable(alloc, task, &mut graph)?;
+    Ok(graph)
+}
+
 /// The orders by the node that they lead to, each with how strong it is.
 pub fn orders(alloc: Global, task: &Task) -> Result<Vec<u32>, NoMemory> {
-    let graph = landmarks(alloc, task)?;
+    let graph = ordered(alloc, task)?;
     let mut answers = Vec::new(alloc);
     let count = graph.nodes().len() as u32;
     for after in 0..count {
         push_orders(&mut answers, &graph, after)?;
     }
     Ok(answers)
+}
+
+/// Whether a path of orders that are strong enough leads from the first node to the second.
+pub fn leads(alloc: Global, task: &Task, weakest: Order) -> Result<bool, NoMemory> {
+    let graph = ordered(alloc, task)?;
+    if graph.nodes().len() < 2 {
+        return Ok(false);
+    }
+    graph.reaches(0, 1, weakest)
+}
+
+/// The estimates in a first state and in the next one of a path.
+pub fn estimates(
+    alloc: Global,
+    task: &Task,
+    first: &[u32],
+    next: &[u32],
+) -> Result<(u32, u32), NoMemory> {
+    let status = Status::new(alloc, task, ordered(alloc, task)?, CostKind::Normal)?;
+    let mut row = vec![in alloc; 0; status.row_words()]?;
+    let mut after = vec![in alloc; 0; status.row_words()]?;
+    status.first_into(first, &mut row);
+    status.progress_into(&row, next, &mut after);
+    Ok((status.estimate(&row, first), status.estimate(&after, next)))
 }
