@@ -1,6 +1,5 @@
 -- Rows at their places in one list.
 use Rattle.std.proofs.Common.{◌≡◌, ◌≢◌, ◌∙◌, sym, ap, subst, ℕ, ◌+◌, ◌-◌, ◌*◌, ◌<◌, ◌≤◌, ◌⊎◌, inl, inr, List, ◌++◌, length, take, drop, arith, length-append, length-take, length-drop}
-use Rattle.std.specs.List.{slice_range}
 use Rattle.std.proofs.Math.Nat.{mul-le-mul_right}
 use Rattle.std.proofs.lemmas.Slice.{between_is, between-put_mid, take-put_mid_below, drop-put_mid}
 use borrow.Rule.Slice.PartMut.{put_mid, post_of}
@@ -22,11 +21,11 @@ written_long a k old row le same =
 -- a row that is written over what stood at its place
 pub stored : (old row written : List ℕ) (n k : ℕ) → IsThere old (length row) n → k ≡ length row → written ≡ row → Stores old (put_mid (n * length row) k old written) row n
 stored old row written n k there long is = subst (λ (ys : List ℕ). Stores old (put_mid (n * length row) k old ys) row n) (sym is) (record {
-    there = omega (arith, same_long);
-    here = between-put_mid start k old row (start + length row) within (omega arith);
-    others_there = λ m le. omega (arith, same_long);
-    others = λ m other le. by_order m le (apart m n other);
-  })
+  there = omega (arith, same_long);
+  here = between-put_mid start k old row (start + length row) within (omega arith);
+  others_there = λ m le. omega (arith, same_long);
+  others = λ m other le. by_order m le (apart m n other);
+})
   where
     start : ℕ
     start = n * length row

@@ -1,5 +1,5 @@
 // Which landmarks are accepted along the paths to the states of a search.
-ghost use Rattle.std.specs.Prelude.{◌≡◌, ◌≢◌, ◌≤◌, ◌++◌, ◌∷◌, [], ℕ, List, length, IfOk, OnOk};
+ghost use Rattle.std.specs.Prelude.{◌≡◌, ◌≢◌, ◌++◌, ◌∷◌, [], ℕ, List, length, IfOk, OnOk};
 ghost use Rattle.std.specs.Prelude.{None, Some};
 ghost use Rattle.lm_status.specs.Estimates.{landmark_estimate};
 ghost use Rattle.lm_status.specs.Preferred.{leads_on as op_leads_on};
