@@ -1,0 +1,14 @@
+pub mod Reaching
+pub mod Deciding
+pub mod Taking
+pub mod Growing
+pub mod Visiting
+pub mod Beginning
+pub mod Ending
+pub mod Clocking
+pub mod Unpacking
+pub mod Arriving
+pub mod Halting
+pub mod Answering
+pub mod Loops
+pub mod Keeping

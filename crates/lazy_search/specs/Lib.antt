@@ -1,0 +1,10 @@
+pub mod States
+pub mod Rows
+pub mod Shapes
+pub mod Trees
+pub mod Entries
+pub mod Outcomes
+pub mod Machines
+pub mod Visits
+pub mod Ends
+pub mod Halts

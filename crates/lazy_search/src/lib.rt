@@ -1,0 +1,16 @@
+//! Lazy search.
+#![tactic(auto)]
+
+mod end;
+mod entries;
+mod machine;
+mod outcomes;
+mod paths;
+mod rows;
+mod phase;
+mod shape;
+mod states;
+mod turns;
+
+pub use end::SearchEnd;
+pub use phase::search;
