@@ -2,6 +2,7 @@
 use Rattle.std.proofs.Common.{◌≡◌, ◌≢◌, ℕ, ◌+◌, ◌<◌, ◌≤◌, ◌%◌, Bool, true, false, List, [], ◌∷◌, ◌++◌, length, Option, Some, None, refl, ap, sym, ◌∙◌, subst, arith}
 use Rattle.std.specs.Prelude.{if◌then◌else◌, option_and_then, is_some}
 use Rattle.std.proofs.lemmas.List.{append-nil, append_assoc, length-append}
+use Rattle.std.proofs.lemmas.Bool.{lt-leb, le-leb}
 use Rattle.lama_host.specs.Streams.{Answers}
 use Rattle.search_log.specs.declared.setting.Stop.{Stop}
 use Rattle.search_log.specs.declared.setting.LimitHit.{LimitHit}
@@ -27,6 +28,18 @@ tells_then a b c p q = record {
       let first = p.front later.0 later.2 in
       (first.0, first.1 ++ later.1, first.2, later.3 ∙ ap (λ (xs : List ℕ). xs ++ later.1) first.3 ∙ append_assoc first.0 first.1 later.1);
 }
+
+-- one question, or none
+pub asks_none : (o : Option Stop) (before : Option (List ℕ)) (hit : Option LimitHit) → o ≡ None → hit ≡ None → Asks o before before hit
+asks_none o before hit is none = subst (λ (x : Option Stop). Asks x before before hit) (sym is) (refl, none)
+
+pub asks_early : (o : Option Stop) (stop : Stop) (before after : Option (List ℕ)) (t : ℕ) → o ≡ Some stop → Answers before after t → t < stop.start + stop.limit → Asks o before after None
+asks_early o stop before after t is a early =
+    subst (λ (x : Option Stop). Asks x before after None) (sym is) (t, a, ap (λ (b : Bool). if b then Some (Time stop.start stop.limit t) else None) (sym (lt-leb (stop.start + stop.limit) t early)))
+
+pub asks_late : (o : Option Stop) (stop : Stop) (before after : Option (List ℕ)) (t : ℕ) → o ≡ Some stop → Answers before after t → stop.start + stop.limit ≤ t → Asks o before after (Some (Time stop.start stop.limit t))
+asks_late o stop before after t is a late =
+    subst (λ (x : Option Stop). Asks x before after (Some (Time stop.start stop.limit t))) (sym is) (t, a, ap (λ (b : Bool). if b then Some (Time stop.start stop.limit t) else None) (sym (le-leb (stop.start + stop.limit) t late)))
 
 -- the first question
 pub asks_first : (phase : Phase) (before after : Option (List ℕ)) (hit : Option LimitHit) → Asks phase.setting.stop before after hit → IsAnswered phase [] (moment_in hit) before after

@@ -36,6 +36,7 @@ pub(crate) enum Halt {
 }
 
 /// Asks the clock where a stop is set, and answers that time is over where it is.
+#[tactic(auto)]
 fn ask<C: Clock>(setting: &Setting, clock: &mut C) -> Option<LimitHit>
     ensures asks { Asks setting.now.stop (C.answers clock.old) (C.answers clock.new) result }
     ensures moment { IsBetween (C.last clock.old) (C.last clock.new) (moment_in result) }
@@ -55,6 +56,7 @@ fn ask<C: Clock>(setting: &Setting, clock: &mut C) -> Option<LimitHit>
 }
 
 /// Asks the clock after each 256th pop.
+#[tactic(auto)]
 fn ask_after<C: Clock>(setting: &Setting, clock: &mut C, pops: u64) -> Option<LimitHit>
     ensures between { pops % 256 ≢ 0 → result ≡ None }
     ensures unasked { pops % 256 ≢ 0 → C.answers clock.new ≡ C.answers clock.old }

@@ -1,6 +1,7 @@
-use Rattle.std.proofs.Common.{◌≡◌, ◌<◌, ◌++◌, ◌∷◌, [], ℕ, List, refl, ap, sym, ◌∙◌, subst, arith, length, reverse}
+use Rattle.std.proofs.Common.{◌≡◌, ◌<◌, ◌++◌, ◌∷◌, [], ℕ, List, refl, ap, sym, ◌∙◌, subst, arith, length, reverse, get_or}
 use Rattle.std.proofs.lemmas.List.{append-nil}
-use Rattle.std.proofs.lemmas.Option.{slice_get_read}
+use Rattle.std.proofs.lemmas.Option.{slice_get-get_or}
+use Rattle.lazy_search.specs.declared.paths.Came.{Came}
 use Rattle.lazy_search.specs.Trees.{Traced}
 use Rattle.lazy_search.proofs.Loops.{traced_back, traced_whole}
 use Rattle.lazy_search.proofs.paths.path_to.Goals as goal
@@ -13,18 +14,22 @@ loop-at-init c = record {
 
 pub loop-at-smaller : goal.loop-at-smaller
 loop-at-smaller c =
-    let read = slice_get_read c.args.tree.now (length c.args.tree.now) c.loop-at.at c.index-came.result.now refl c.loop-at.invariant.inside c.index-came.ensures in
-    c.requires.earlier.earlier c.loop-at.at c.index-came.result.now (omega arith) read
+    let tree = c.args.tree.now in
+    let d : Came = record { origin = 0; op = 0 } in
+    c.requires.earlier.earlier c.loop-at.at (get_or tree c.loop-at.at d) c.loop-at-test.true (slice_get-get_or tree c.loop-at.at d c.loop-at.invariant.inside)
 
 pub loop-at-preserved : goal.loop-at-preserved
 loop-at-preserved c =
     let tree = c.args.tree.now in
-    let came = c.index-came.result.now in
-    let read = slice_get_read tree (length tree) c.loop-at.at came refl c.loop-at.invariant.inside c.index-came.ensures in
+    let d : Came = record { origin = 0; op = 0 } in
+    let came = get_or tree c.loop-at.at d in
+    let read = slice_get-get_or tree c.loop-at.at d c.loop-at.invariant.inside in
+    let before = c.requires.earlier.earlier c.loop-at.at came c.loop-at-test.true read in
+    let ok = c.in_ok-push.ensures in
     record {
-      inside = omega (arith, c.requires.earlier.earlier c.loop-at.at came (omega arith) read, c.loop-at.invariant.inside);
-      traced = traced_back tree c.args.visit c.loop-at.at came c.loop-at.path.items c.push.new.self.items (omega arith) read c.loop-at.invariant.traced c.in_ok-push.ensures.items;
+      inside = omega (arith, before, c.loop-at.invariant.inside);
+      traced = traced_back tree c.args.visit c.loop-at.at came c.loop-at.path.items c.push.new.self.items c.loop-at-test.true read c.loop-at.invariant.traced ok.items;
     }
 
 pub returns : goal.returns
-returns c = ?
+returns c = rw c.reverse.ensures.items (traced_whole c.args.tree.now c.args.visit c.loop-at.at c.loop-at.path.items (omega arith) c.loop-at.invariant.traced)
