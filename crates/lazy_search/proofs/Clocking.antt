@@ -1,8 +1,8 @@
 -- What the clock was asked, as a log goes on.
-use Rattle.std.proofs.Common.{◌≡◌, ◌≢◌, ℕ, ◌+◌, ◌<◌, ◌≤◌, ◌%◌, Bool, true, false, List, [], ◌∷◌, ◌++◌, length, Option, Some, None, refl, ap, sym, ◌∙◌, subst, arith}
+use Rattle.std.proofs.Common.{◌≡◌, ◌≢◌, ℕ, ◌+◌, ◌<◌, ◌≤◌, ◌%◌, Bool, true, false, List, [], ◌∷◌, ◌++◌, length, Option, Some, None, refl, ap, sym, ◌∙◌, subst, arith, inl, inr}
 use Rattle.std.specs.Prelude.{if◌then◌else◌, option_and_then, is_some}
 use Rattle.std.proofs.lemmas.List.{append-nil, append_assoc, length-append}
-use Rattle.std.proofs.lemmas.Bool.{lt-leb, le-leb}
+use Rattle.std.proofs.lemmas.Bool.{lt-leb, le-leb, cases_eq}
 use Rattle.lama_host.specs.Streams.{Answers}
 use Rattle.search_log.specs.declared.setting.Stop.{Stop}
 use Rattle.search_log.specs.declared.setting.LimitHit.{LimitHit}
@@ -12,7 +12,7 @@ use Rattle.search_log.specs.Phases.{Phase}
 use Rattle.search_log.specs.Clocks.{is_final, unfinal, times_asked, is_late, moment_of, AreAnswers}
 use Rattle.search_log.specs.ClockLaws.{unasked, first_early, first_late, unasked_final, unasked_between, asked_again, unfinal_more, answers_stay, one_early, one_late}
 use Rattle.lazy_search.specs.Outcomes.{PopsOne}
-use Rattle.lazy_search.specs.Ends.{IsAnswered, TellsOn}
+use Rattle.lazy_search.specs.Ends.{IsAnswered, TellsOn, IsBetween}
 use Rattle.lazy_search.specs.Halts.{Asks, moment_in}
 
 pub tells_same : (before after : Option (List ℕ)) → after ≡ before → TellsOn before after
@@ -119,3 +119,18 @@ unfinal_one pops new one all = subst (λ (ps : List Pop). unfinal ps ≡ length 
 
 pub length_one : (pops new : List Pop) (b : Bool) → PopsOne pops new b → length new ≡ length pops + 1
 length_one pops new b one = ap length one.is ∙ length-append pops (one.pop ∷ [])
+
+-- after a pop the clock is asked, or not
+pub asked_after : (phase : Phase) (pops new : List Pop) (n : ℕ) (before mid after : Option (List ℕ)) (hit : Option LimitHit) → IsAnswered phase pops None before mid → PopsOne pops new false → unfinal pops ≡ length pops → length new ≡ n
+    → (n % 256 ≢ 0 → hit ≡ None) → (n % 256 ≢ 0 → after ≡ mid) → (n % 256 ≡ 0 → Asks phase.setting.stop mid after hit) → IsAnswered phase new (moment_in hit) before after
+asked_after phase pops new n before mid after hit a one all count none same asks =
+    elim (cases_eq (n % 256) 0) [
+      | inl multiple ↦ asks_next phase pops new before mid after hit a one all (ap (λ (k : ℕ). k % 256) count ∙ multiple) (asks multiple)
+      | inr other ↦ subst (λ (h : Option LimitHit). IsAnswered phase new (moment_in h) before after) (sym (none other))
+          (subst (λ (o : Option (List ℕ)). IsAnswered phase new None before o) (sym (same other))
+          (answered_between phase pops new before mid a one all (λ e. other (ap (λ (k : ℕ). k % 256) (sym count) ∙ e))))
+    ]
+
+pub between_from : (a b c : ℕ) (moment : Option ℕ) → a ≤ b → IsBetween b c moment → IsBetween a c moment
+between_from a b c None le h = tt
+between_from a b c (Some t) le h = (omega (arith, le, h.0), h.1)

@@ -1,7 +1,7 @@
 -- How a search halts after a turn.
-use Rattle.std.proofs.Common.{◌≡◌, ℕ, ◌+◌, ◌<◌, ◌≤◌, ◌%◌, Bool, true, false, List, [], length, Option, Some, None, refl, ap, sym, ◌∙◌, subst, arith, inl, inr, IfOk}
+use Rattle.std.proofs.Common.{◌≡◌, ℕ, ◌+◌, ◌<◌, ◌≤◌, ◌%◌, Bool, true, false, List, [], length, Option, Some, None, refl, ap, sym, ◌∙◌, subst, arith, inl, inr, IfOk, ◌↔◌, ◌≢◌, ◌∷◌, ◌++◌}
 use Rattle.std.specs.Prelude.{if◌then◌else◌, Result, Ok, Err, is_some}
-use Rattle.std.proofs.lemmas.Bool.{leb-true}
+use Rattle.std.proofs.lemmas.Bool.{leb-true, cases_eq}
 use Rattle.sas_task.specs.declared.contents.Parts.{Parts}
 use Rattle.guide.specs.declared.seen.Seen.{Seen}
 use Rattle.search_log.specs.declared.setting.Setting.{Setting}
@@ -14,8 +14,11 @@ use Rattle.search_log.specs.Clocks.{is_late}
 use Rattle.search_log.specs.Lawful.{GoesOn}
 use Rattle.search_log.specs.Ends.{EndsExhausted, EndsAtPops, EndsByTime, EndsAtLimit}
 use Rattle.lazy_search.specs.declared.machine.Machine.{Machine}
+use Rattle.lazy_search.specs.declared.machine.Turned.{Turned}
 use Rattle.lazy_search.specs.declared.machine.Turned.TheVariants.{Empty, Done, AtGoal, AtFull}
 use Rattle.lazy_search.specs.declared.phase.Halt.TheVariants as halt
+use Rattle.search_log.specs.declared.turns.Pop.{Pop}
+use Rattle.lazy_search.specs.Outcomes.{PopsMore}
 use Rattle.lazy_search.specs.Machines.{AfterTurn}
 use Rattle.lazy_search.specs.Halts.{Halts, Asks}
 
@@ -72,3 +75,21 @@ halts_done phase K F m a ends = record { past = a.past; rests = a.rests; guided 
 
 pub halts_pops : (phase : Phase) (K : ℕ → List (List ℕ) → Type 0) (F : List (List ℕ) → Seen → Type 0) (m : Machine) → (a : AfterTurn phase K F m Done) → EndsAtPops phase a.past → Halts phase K F m (halt.AtLimit (Pops phase.setting.most_pops))
 halts_pops phase K F m a ends = record { past = a.past; rests = a.rests; guided = a.guided; ends = (refl, ends) }
+
+pub same_both : {A B C : Type 0} → (A ↔ B) → (B ↔ C) → (A ↔ C)
+same_both p q = (λ x. q.0 (p.0 x), λ x. p.1 (q.1 x))
+
+-- a turn of which it is known how it went
+pub after_is : (phase : Phase) (K : ℕ → List (List ℕ) → Type 0) (F : List (List ℕ) → Seen → Type 0) (m : Machine) (t u : Turned) → t ≡ u → AfterTurn phase K F m t → AfterTurn phase K F m u
+after_is phase K F m t u is a = subst (AfterTurn phase K F m) is a
+
+pub pops_are : (old new : List Pop) (t u : Turned) → t ≡ u → PopsMore old new t → PopsMore old new u
+pops_are old new t u is p = subst (PopsMore old new) is p
+
+-- time is over only where the clock was asked
+pub over_after : (stop : Option Stop) (n : ℕ) (before after : Option (List ℕ)) (hit : LimitHit) → (n % 256 ≢ 0 → ◌≡◌ {A = Option LimitHit} (Some hit) None) → (n % 256 ≡ 0 → Asks stop before after (Some hit)) → (n % 256 ≡ 0) × IsOver stop hit
+over_after stop n before after hit none asks =
+    elim (cases_eq (n % 256) 0) [
+      | inl multiple ↦ (multiple, asks_over stop before after hit (asks multiple))
+      | inr other ↦ absurd (let e = none other in cc)
+    ]

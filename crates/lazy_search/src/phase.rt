@@ -73,6 +73,7 @@ fn ask_after<C: Clock>(setting: &Setting, clock: &mut C, pops: u64) -> Option<Li
 }
 
 /// Makes turns until the search halts.
+#[tactic(auto)]
 fn run<G: Guide, C: Clock>(
     alloc: Global,
     task: &Task,
