@@ -1,15 +1,16 @@
 -- What the answer of a search says.
-use Rattle.std.proofs.Common.{◌≡◌, ◌↔◌, ℕ, ◌≤◌, Bool, true, false, List, [], Option, Some, None, refl, ap, sym, ◌∙◌, subst}
+use Rattle.std.proofs.Common.{◌≡◌, ◌↔◌, ℕ, ◌≤◌, Bool, true, false, List, [], Option, Some, None, refl, ap, sym, ◌∙◌, subst, ◌+◌, ◌∷◌, arith}
 use Rattle.std.specs.Prelude.{is_some}
 use Rattle.sas_task.specs.declared.contents.Parts.{Parts}
 use Rattle.guide.specs.declared.seen.Seen.{Seen}
 use Rattle.search_log.specs.declared.setting.Setting.{Setting}
 use Rattle.search_log.specs.declared.setting.LimitHit.{LimitHit}
 use Rattle.search_log.specs.declared.turns.Pop.{Pop}
-use Rattle.search_log.specs.Logs.{Content}
+use Rattle.search_log.specs.Logs.{Content, Visit}
 use Rattle.search_log.specs.Members.{Member}
-use Rattle.search_log.specs.Phases.{Phase}
-use Rattle.search_log.specs.Places.{Past}
+use Rattle.sas_task.specs.WellFormed.{IsWellFormed}
+use Rattle.search_log.specs.Phases.{Phase, IsPhase, IsSetting}
+use Rattle.search_log.specs.Places.{Node, Past}
 use Rattle.search_log.specs.Guided.{AllFit, TellsDead}
 use Rattle.search_log.specs.Ends.{EndsAtLimit}
 use Rattle.search_log.specs.Clocks.{moment_of}
@@ -20,9 +21,11 @@ use Rattle.lazy_search.specs.declared.phase.Halt.{Halt}
 use Rattle.lazy_search.specs.declared.phase.Halt.TheVariants as halt
 use Rattle.lazy_search.specs.declared.phase.Found.{Found}
 use Rattle.lazy_search.specs.declared.phase.Found.TheVariants as found
-use Rattle.lazy_search.specs.Machines.{past_in, Rests, IsGuided}
-use Rattle.lazy_search.specs.Ends.{Tells, EndsInPlan, EndsInSpace, EndsSo, EndHolds, ClockHolds, IsAnswered, IsBetween, moment_by, past_by}
-use Rattle.lazy_search.specs.Halts.{Halts, HaltEnds, Finds, end_with, moment_at}
+use Rattle.lazy_search.specs.declared.shape.Shape.{Shape}
+use Rattle.lazy_search.specs.Machines.{phase_of, past_in, Rests, IsGuided}
+use Rattle.lazy_search.specs.Ends.{Tells, EndsInPlan, EndsInSpace, EndsSo, EndHolds, ClockHolds, IsAnswered, IsBetween, moment_by, past_by, phase_by}
+use Rattle.lazy_search.proofs.Halting.{IsOver, first_over}
+use Rattle.lazy_search.specs.Halts.{Halts, HaltEnds, Finds, space_end, end_with, moment_at}
 
 -- the past of a halt is what the log tells
 pub halt_ends : (phase : Phase) (K : ℕ → List (List ℕ) → Type 0) (F : List (List ℕ) → Seen → Type 0) (m : Machine) (h : Halt) → Halts phase K F m h → Rests phase m (past_in phase m) × HaltEnds phase (past_in phase m) h × TellsDead phase (past_in phase m)
@@ -39,6 +42,10 @@ tells phase K F G m h a means =
       dead = subst (TellsDead phase) same a.guided.dead;
     }
 
+space_ends : (phase : Phase) (log : Content) (space : List Member) → EndsInSpace phase space log → (b : Option ℕ) → phase.setting.bound ≡ b → EndsSo phase log (space_end b space log) × (moment_by (space_end b space log) ≡ None)
+space_ends phase log space x None e = ((refl, x, e), refl)
+space_ends phase log space x (Some c) e = ((refl, x, ap is_some e), refl)
+
 -- what was found is the answer
 pub ends_so : (phase : Phase) (log : Content) (h : Halt) (f : Found) → Finds phase log h f → EndsSo phase log (end_with phase.setting f log) × (moment_by (end_with phase.setting f log) ≡ moment_at h)
 ends_so phase log halt.AtGoal (found.Plan ops cost) x = ((refl, x), refl)
@@ -49,11 +56,7 @@ ends_so phase log halt.Exhausted (found.Limit hit) x = absurd x
 ends_so phase log (halt.AtLimit own) (found.Plan ops cost) x = absurd x
 ends_so phase log (halt.AtLimit own) (found.Space space) x = absurd x
 ends_so phase log (halt.AtLimit own) (found.Limit hit) x = ((refl, x.1), ap moment_of x.0)
-ends_so phase log halt.Exhausted (found.Space space) x = by_bound phase.setting.bound refl
-  where
-    by_bound : (b : Option ℕ) → phase.setting.bound ≡ b → EndsSo phase log (end_with phase.setting (found.Space space) log) × (moment_by (end_with phase.setting (found.Space space) log) ≡ None)
-    by_bound None e = rw e ((refl, x, refl), refl)
-    by_bound (Some c) e = rw e ((refl, x, refl), refl)
+ends_so phase log halt.Exhausted (found.Space space) x = space_ends phase log space x phase.setting.bound refl
 
 pub end_holds : (phase : Phase) (F : List (List ℕ) → Seen → Type 0) (whole : Content) (end : SearchEnd) → Tells phase F whole → EndsSo phase whole end → EndHolds phase F end
 end_holds phase F whole (Plan ops cost log) t e = (subst (Tells phase F) (sym e.0) t, subst (EndsInPlan phase ops cost) (sym e.0) e.1)
@@ -72,3 +75,26 @@ clock_holds phase whole (Unsolvable space log) moment before after e is a = answ
 clock_holds phase whole (Unsolved space log) moment before after e is a = answered_by phase whole log moment None before after e.0 is a
 clock_holds phase whole (Limit hit log) moment before after e is a = answered_by phase whole log moment (moment_of hit) before after e.0 is a
 clock_holds phase whole NoMemory moment before after e is a = tt
+
+-- time that is over before the first visit
+pub first_limit : (phase : Phase) (F : List (List ℕ) → Seen → Type 0) (log : Content) (hit : LimitHit) → log.visits ≡ [] → log.pops ≡ [] → IsOver phase.setting.stop hit → EndHolds phase F (Limit hit log)
+first_limit phase F log hit no_visits no_pops over = nothing log.visits log.pops no_visits no_pops
+  where
+    nothing : (vs : List Visit) (ps : List Pop) → vs ≡ [] → ps ≡ [] → EndHolds phase F (Limit hit (record { visits = vs; pops = ps }))
+    nothing [] [] a b = (
+      record {
+        lawful = refl;
+        fits = λ j n at. absurd (let e : ◌≡◌ {A = Option Node} None (Some n) = at in cc);
+        dead = λ j n at _. absurd (let e : ◌≡◌ {A = Option Node} None (Some n) = at in cc);
+      },
+      first_over phase hit over,
+    )
+    nothing (v ∷ vs) ps a b = absurd (cc)
+    nothing [] (p ∷ ps) a b = absurd (cc)
+
+-- the phase of a guide's shape
+pub phase_same : (parts : Parts) (setting : Setting) (shape : Shape) (guides : ℕ) (preferring : Bool) → shape.guides ≡ guides → shape.preferring ≡ preferring → phase_of parts setting shape ≡ phase_by parts setting guides preferring
+phase_same parts setting shape guides preferring a b = ap (λ (n : ℕ). phase_by parts setting n shape.preferring) a ∙ ap (phase_by parts setting guides) b
+
+pub is_phase : (parts : Parts) (setting : Setting) (shape : Shape) → IsWellFormed parts → 1 ≤ shape.guides → shape.guides ≤ 3 → IsSetting setting → IsPhase (phase_of parts setting shape)
+is_phase parts setting shape formed some few is = record { task = formed; some_guide = omega (arith, some); few_guides = few; setting = is }

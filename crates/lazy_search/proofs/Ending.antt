@@ -29,6 +29,7 @@ use Rattle.search_log.specs.SpaceLaws.{lawful_exhausted}
 use Rattle.lazy_search.specs.declared.rows.Row.{Row}
 use Rattle.lazy_search.specs.declared.paths.Came.{Came}
 use Rattle.lazy_search.specs.declared.machine.Machine.{Machine}
+use Rattle.lazy_search.specs.States.{IsKept}
 use Rattle.lazy_search.specs.Trees.{AreEarlier, Traced}
 use Rattle.lazy_search.specs.Trees.Traced.{first, later}
 use Rattle.lazy_search.specs.Machines.{past_in, row_of, visit_at, packed_at, TreeStands, Keeps, Rests}
@@ -45,6 +46,20 @@ take_whole [] zero le = refl
 take_whole [] (suc n) le = refl
 take_whole (x ∷ xs) zero le = absurd (omega (arith, le))
 take_whole (x ∷ xs) (suc n) le = ap (λ ys. x ∷ ys) (take_whole xs n (omega (arith, le)))
+
+pub take_front : {X : Type 0} (front rest : List X) (n : ℕ) → n ≡ length front → take n (front ++ rest) ≡ front
+take_front [] rest zero e = refl
+take_front [] rest (suc n) e = absurd (omega (arith, e))
+take_front (x ∷ xs) rest zero e = absurd (omega (arith, e))
+take_front (x ∷ xs) rest (suc n) e = ap (λ ys. x ∷ ys) (take_front xs rest n (omega (arith, e)))
+
+take_few : {X : Type 0} (xs : List X) (n : ℕ) → length (take n xs) ≤ n
+take_few xs zero = omega arith
+take_few [] (suc n) = omega arith
+take_few (x ∷ xs) (suc n) = omega (arith, take_few xs n)
+
+pub space_few : (table : List Node) (space : List Member) (i : ℕ) → space ≡ map node_member (take i table) → length space ≤ i
+space_few table space i is = omega (arith, ap length is, length-map (take i table) node_member, take_few table i)
 
 -- the space has one member more
 pub space_more : (table : List Node) (space more : List Member) (i : ℕ) (n : Node) (state : List ℕ) (cost : ℕ) → slice_get table i ≡ Some n → state ≡ n.place.state → cost ≡ n.place.real → space ≡ map node_member (take i table)
@@ -64,6 +79,24 @@ node_there phase m past id kept lt = found (latest past.nodes) id (omega (arith,
     found [] i l = absurd (omega (arith, l))
     found (x ∷ xs) zero l = (x, refl)
     found (x ∷ xs) (suc i) l = found xs i (omega (arith, l))
+
+-- there are few rows, and each is of a state that is kept
+pub rows_few : (phase : Phase) (m : Machine) (past : Past) → IsPhase phase → Rests phase m past → length m.rows.items ≤ 2147483647
+rows_few phase m past is rests =
+    let sound = sound_of phase m.log.visits m.log.pops past is rests.kept.logged in
+    omega (arith, rows_count phase m m.states.registry.states past rests.kept, sound.few, is.setting.few_states)
+
+pub state_there : (phase : Phase) (m : Machine) (past : Past) (id : ℕ) (n : Node) → IsPhase phase → Rests phase m past → slice_get (latest past.nodes) id ≡ Some n → IsState phase.parts.variables n.place.state
+state_there phase m past id n is rests at =
+    let sound = sound_of phase m.log.visits m.log.pops past is rests.kept.logged in
+    (sound.paths n.number n (sound.visits id n at)).settled.values
+
+pub is_kept : (phase : Phase) (m : Machine) (past : Past) (id : ℕ) (n : Node) → IsPhase phase → Rests phase m past → slice_get (latest past.nodes) id ≡ Some n → IsKept m.states phase.parts id
+is_kept phase m past id n is rests at = record {
+  state = n.place.state;
+  is_state = state_there phase m past id n is rests at;
+  stored = words_there phase m m.states.registry.states past id n rests.kept at;
+}
 
 -- the tree goes back from each visit
 pub tree_earlier : (nodes : List Node) (tree : List Came) → TreeStands nodes tree → AreEarlier tree

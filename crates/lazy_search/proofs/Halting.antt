@@ -1,5 +1,5 @@
 -- How a search halts after a turn.
-use Rattle.std.proofs.Common.{◌≡◌, ℕ, ◌+◌, ◌<◌, ◌≤◌, ◌%◌, Bool, true, false, List, [], length, Option, Some, None, refl, ap, sym, ◌∙◌, subst, arith, inl, inr, IfOk, ◌↔◌, ◌≢◌, ◌∷◌, ◌++◌}
+use Rattle.std.proofs.Common.{◌≡◌, ℕ, ◌+◌, ◌<◌, ◌≤◌, ◌%◌, Bool, true, false, List, [], length, Option, Some, None, refl, ap, sym, ◌∙◌, subst, arith, inl, inr, IfOk, OnOk, ◌↔◌, ◌≢◌, ◌∷◌, ◌++◌}
 use Rattle.std.specs.Prelude.{if◌then◌else◌, Result, Ok, Err, is_some}
 use Rattle.std.proofs.lemmas.Bool.{leb-true, cases_eq}
 use Rattle.sas_task.specs.declared.contents.Parts.{Parts}
@@ -93,3 +93,11 @@ over_after stop n before after hit none asks =
       | inl multiple ↦ (multiple, asks_over stop before after hit (asks multiple))
       | inr other ↦ absurd (let e = none other in cc)
     ]
+
+pub on_ok : {T E A B : Type 0} (r : Result T E) → (A → B) → OnOk r A → OnOk r B
+on_ok (Ok x) f a = f a
+on_ok (Err e) f a = tt
+
+pub if_both : {T E : Type 0} (r : Result T E) (P Q R : T → Type 0) → ((x : T) → P x → Q x → R x) → IfOk r P → IfOk r Q → IfOk r R
+if_both (Ok x) P Q R f p q = f x p q
+if_both (Err e) P Q R f p q = tt

@@ -11,6 +11,7 @@ use Rattle.search_log.specs.Ends.{EndsInGoal, EndsExhausted, EndsAtLimit}
 use Rattle.search_log.specs.Clocks.{is_late, moment_of}
 use Rattle.search_log.specs.declared.setting.Setting.{Setting}
 use Rattle.search_log.specs.Logs.{Content}
+use Rattle.search_log.specs.Members.{Member}
 use Rattle.lazy_search.specs.declared.end.SearchEnd.{SearchEnd}
 use Rattle.lazy_search.specs.declared.end.SearchEnd.TheVariants as ends
 use Rattle.lazy_search.specs.declared.phase.Found.{Found}
@@ -60,12 +61,13 @@ Finds phase log (AtLimit own) (Limit hit) = (hit ≡ own) × EndsAtLimit phase (
 Finds phase log (AtLimit own) (Plan ops cost) = ⊥
 Finds phase log (AtLimit own) (Space space) = ⊥
 
+-- the answer with a space: without a bound there is no plan
+abbrev pub space_end : Option ℕ → List Member → Content → SearchEnd
+space_end None space log = ends.Unsolvable space log
+space_end (Some bound) space log = ends.Unsolved space log
+
 -- the answer with what was found
 abbrev pub end_with : Setting → Found → Content → SearchEnd
 end_with setting (Plan ops cost) log = ends.Plan ops cost log
 end_with setting (Limit hit) log = ends.Limit hit log
-end_with setting (Space space) log = by_bound setting.bound
-  where
-    by_bound : Option ℕ → SearchEnd
-    by_bound None = ends.Unsolvable space log
-    by_bound (Some bound) = ends.Unsolved space log
+end_with setting (Space space) log = space_end setting.bound space log

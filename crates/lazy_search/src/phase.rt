@@ -119,6 +119,7 @@ fn run<G: Guide, C: Clock>(
 }
 
 /// Visits the initial state, and makes turns until the search halts.
+#[tactic(auto)]
 fn go<G: Guide, C: Clock>(
     alloc: Global,
     task: &Task,
@@ -152,6 +153,7 @@ fn go<G: Guide, C: Clock>(
 }
 
 /// The states of a machine, with their costs.
+#[tactic(auto)]
 fn space_of(
     alloc: Global,
     task: &Task,
@@ -176,6 +178,7 @@ fn space_of(
 }
 
 /// The plan of a machine that has visited a goal, and what it really costs.
+#[tactic(auto)]
 fn plan_of(
     alloc: Global,
     task: &Task,
@@ -211,6 +214,7 @@ pub(crate) enum Found {
 }
 
 /// What a machine has found for which a search halts.
+#[tactic(auto)]
 fn found_by(
     alloc: Global,
     task: &Task,
@@ -240,6 +244,7 @@ fn found_by(
 }
 
 /// The answer, with the log of the search.
+#[tactic(auto)]
 fn answer(setting: &Setting, found: Found, log: Log) -> SearchEnd
     ensures { result ≡ end_with setting.now found log }
 {
@@ -254,6 +259,7 @@ fn answer(setting: &Setting, found: Found, log: Log) -> SearchEnd
 }
 
 /// The answer of a machine that halts.
+#[tactic(auto)]
 fn end_of(
     alloc: Global,
     task: &Task,
@@ -277,6 +283,7 @@ fn end_of(
 }
 
 /// Searches, or finds that memory is wanting.
+#[tactic(auto)]
 fn try_search<G: Guide, C: Clock>(
     alloc: Global,
     task: &Task,
@@ -313,6 +320,7 @@ fn try_search<G: Guide, C: Clock>(
 }
 
 /// Searches a task from its initial state, guided by `guide`.
+#[tactic(auto)]
 pub fn search<G: Guide, C: Clock>(
     alloc: Global,
     task: &Task,
