@@ -3,6 +3,7 @@
 ghost use Rattle.std.specs.Prelude.{◌≡◌, ◌≢◌, ◌≤◌, ◌<◌, ◌%◌, ◌↔◌, ℕ, true, List, [], length};
 ghost use Rattle.std.specs.Prelude.{Option, None, IfOk, OnOk};
 ghost use Rattle.sas_task.specs.declared.contents.Parts.{Parts};
+ghost use Rattle.sas_task.specs.WellFormed.{IsWellFormed};
 ghost use Rattle.guide.specs.declared.seen.Seen.{Seen as TheSeen};
 ghost use Rattle.search_log.specs.Phases.{IsPhase, IsSetting, is_below};
 ghost use Rattle.search_log.specs.Spaces.{space_of as the_space};
@@ -282,6 +283,22 @@ fn end_of(
     Ok(answer(setting, found, machine.into_log()))
 }
 
+/// Which lists there are by a guide, for a task, which is well formed.
+#[tactic(auto)]
+fn shape_of<G: Guide>(task: &Task, guide: &G) -> Shape
+    ensures well_formed { IsWellFormed task.now }
+    ensures guides { result.guides ≡ G.guides guide.now }
+    ensures preferring { result.preferring ≡ G.preferring guide.now }
+    ensures some { 1 ≤ result.guides }
+    ensures few { result.guides ≤ 3 }
+{
+    let _metric = task.parts().metric;
+    Shape {
+        guides: guide.guides(),
+        preferring: guide.has_preferred(),
+    }
+}
+
 /// Searches, or finds that memory is wanting.
 #[tactic(auto)]
 fn try_search<G: Guide, C: Clock>(
@@ -304,10 +321,7 @@ fn try_search<G: Guide, C: Clock>(
     ensures later { C.last clock.old ≤ C.last clock.new }
     ensures tells { TellsOn (C.answers clock.old) (C.answers clock.new) }
 {
-    let shape = Shape {
-        guides: guide.guides(),
-        preferring: guide.has_preferred(),
-    };
+    let shape = shape_of(task, guide);
     if let Some(hit) = ask(setting, clock) {
         return Ok(SearchEnd::Limit {
             hit,
