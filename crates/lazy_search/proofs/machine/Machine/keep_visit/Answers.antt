@@ -29,3 +29,36 @@ returns c =
     (subst (λ (b : Bool). Grows c.args.task.now c.args.setting.now c.args.shape row m.seen m.states.applicable.items m.lists m.least b c.expand.new.lists c.expand.new.least) (sym (opened m.seen.dead a.is_goal c.if-self.false c.if-arrival.false))
     (subst (λ (ops : List ℕ). Expands c.args.task.now c.args.setting.now c.args.shape row m.seen ops m.lists m.least c.expand.new.lists c.expand.new.least) c.deref.ensures.value e)))
     c.expand.ensures
+
+pub overflow_cast-row : goal.overflow_cast-row
+overflow_cast-row c = record { fits = omega arith }
+
+pub put_row-requires : goal.put_row-requires
+put_row-requires c = omega (arith, c.requires.id, c.args.self.now.rows.ok.0)
+
+pub returns-in_err-put_row : goal.returns-in_err-put_row
+returns-in_err-put_row c = rw c.from_residual.ensures tt
+
+pub returns-in_err-push : goal.returns-in_err-push
+returns-in_err-push c = rw c.from_residual-in_err-push.ensures tt
+
+pub returns-in_err-push_visit : goal.returns-in_err-push_visit
+returns-in_err-push_visit c = rw c.from_residual-in_err-push_visit.ensures tt
+
+pub expand-requires-clause-lists : goal.expand-requires-clause-lists
+expand-requires-clause-lists c = c.requires.lists
+
+pub expand-requires-clause-guides : goal.expand-requires-clause-guides
+expand-requires-clause-guides c = c.requires.guides
+
+pub expand-requires-clause-weight : goal.expand-requires-clause-weight
+expand-requires-clause-weight c = c.requires.weight
+
+pub expand-requires-clause-g : goal.expand-requires-clause-g
+expand-requires-clause-g c = c.requires.g
+
+pub expand-requires-clause-real : goal.expand-requires-clause-real
+expand-requires-clause-real c = c.requires.real
+
+pub expand-requires-clause-counters : goal.expand-requires-clause-counters
+expand-requires-clause-counters c = c.requires.counters
