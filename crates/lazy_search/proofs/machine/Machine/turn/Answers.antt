@@ -1,0 +1,225 @@
+use Rattle.std.proofs.Common.{◌≡◌, ◌<◌, ◌≤◌, ℕ, true, false, List, [], ◌∷◌, ◌++◌, refl, ap, sym, ◌∙◌, subst, arith, length, IfOk}
+use Rattle.search_log.specs.declared.turns.Pop.{Pop}
+use Rattle.search_log.specs.Logs.{Content}
+use Rattle.search_log.specs.Clocks.{is_final}
+use Rattle.search_log.specs.Places.{past_of}
+use Rattle.lazy_search.specs.declared.machine.Machine.{Machine}
+use Rattle.lazy_search.specs.declared.machine.Decision.{Decision}
+use Rattle.lazy_search.specs.declared.machine.Turned.{Turned}
+use Rattle.lazy_search.specs.Outcomes.{PopsMore}
+use Rattle.lazy_search.specs.Machines.{phase_of, past_in, Reaches, Arrives, ArrivesAt}
+use Rattle.lazy_search.proofs.Taking.{Stays, rests_told, on_told, guided_told, after_empty, after_known, after_full, pops_one}
+use Rattle.lazy_search.proofs.machine.Machine.turn.Goals as goal
+
+pub reach-requires-clause-phase : goal.reach-requires-clause-phase
+reach-requires-clause-phase g c = c.requires.phase
+
+pub reach-requires-clause-rests : goal.reach-requires-clause-rests
+reach-requires-clause-rests g c =
+    let phase = phase_of c.args.task.now c.args.setting.now c.args.shape in
+    rests_told phase _ _ c.args.self.now c.requires.stands
+
+pub reach-requires-clause-allowed : goal.reach-requires-clause-allowed
+reach-requires-clause-allowed g c = c.requires.allowed
+
+pub decide-requires-clause-phase : goal.decide-requires-clause-phase
+decide-requires-clause-phase g c = c.requires.phase
+
+pub decide-requires-clause-reaches : goal.decide-requires-clause-reaches
+decide-requires-clause-reaches g c =
+    let phase = phase_of c.args.task.now c.args.setting.now c.args.shape in
+    subst (λ (l : Content). Reaches phase c.reach.new.self c.reach.new.self.states.registry.states (past_of phase l.visits l.pops) c.in-Some.reached) (sym c.in-Some.ensures.log) c.in-Some.ensures.reaches
+
+pub returns-in_default-clause-same_task : goal.returns-in_default-clause-same_task
+returns-in_default-clause-same_task g c = c.requires.same_task
+
+pub returns-in_default-clause-meaning : goal.returns-in_default-clause-meaning
+returns-in_default-clause-meaning g c parts states seen = (λ f. f, λ f. f)
+
+pub returns-in_default-clause-after : goal.returns-in_default-clause-after
+returns-in_default-clause-after g c =
+    let phase = phase_of c.args.task.now c.args.setting.now c.args.shape in
+    after_empty phase _ _ c.args.self.now c.reach.new.self c.requires.phase c.requires.stands c.in_default.ensures.same c.in_default.ensures.empty
+
+pub returns-in_default-clause-pops : goal.returns-in_default-clause-pops
+returns-in_default-clause-pops g c = ap (λ (m : Machine). m.log.pops) c.in_default.ensures.same
+
+pub returns-in_err-id-clause-same_task : goal.returns-in_err-id-clause-same_task
+returns-in_err-id-clause-same_task g c = rw c.from_residual.ensures tt
+
+pub returns-in_err-id-clause-meaning : goal.returns-in_err-id-clause-meaning
+returns-in_err-id-clause-meaning g c parts states seen = rw c.from_residual.ensures tt
+
+pub returns-in_err-id-clause-after : goal.returns-in_err-id-clause-after
+returns-in_err-id-clause-after g c = rw c.from_residual.ensures tt
+
+pub returns-in_err-id-clause-pops : goal.returns-in_err-id-clause-pops
+returns-in_err-id-clause-pops g c = rw c.from_residual.ensures tt
+
+pub returns-in_err-push_pop-clause-same_task : goal.returns-in_err-push_pop-clause-same_task
+returns-in_err-push_pop-clause-same_task g c = rw c.from_residual-in_err-push_pop.ensures tt
+
+pub returns-in_err-push_pop-clause-meaning : goal.returns-in_err-push_pop-clause-meaning
+returns-in_err-push_pop-clause-meaning g c parts states seen = rw c.from_residual-in_err-push_pop.ensures tt
+
+pub returns-in_err-push_pop-clause-after : goal.returns-in_err-push_pop-clause-after
+returns-in_err-push_pop-clause-after g c = rw c.from_residual-in_err-push_pop.ensures tt
+
+pub returns-in_err-push_pop-clause-pops : goal.returns-in_err-push_pop-clause-pops
+returns-in_err-push_pop-clause-pops g c = rw c.from_residual-in_err-push_pop.ensures tt
+
+pub returns-in_err-push_pop-2-clause-same_task : goal.returns-in_err-push_pop-2-clause-same_task
+returns-in_err-push_pop-2-clause-same_task g c = rw c.from_residual-in_err-push_pop-2.ensures tt
+
+pub returns-in_err-push_pop-2-clause-meaning : goal.returns-in_err-push_pop-2-clause-meaning
+returns-in_err-push_pop-2-clause-meaning g c parts states seen = rw c.from_residual-in_err-push_pop-2.ensures tt
+
+pub returns-in_err-push_pop-2-clause-after : goal.returns-in_err-push_pop-2-clause-after
+returns-in_err-push_pop-2-clause-after g c = rw c.from_residual-in_err-push_pop-2.ensures tt
+
+pub returns-in_err-push_pop-2-clause-pops : goal.returns-in_err-push_pop-2-clause-pops
+returns-in_err-push_pop-2-clause-pops g c = rw c.from_residual-in_err-push_pop-2.ensures tt
+
+pub returns-in-Known-clause-same_task : goal.returns-in-Known-clause-same_task
+returns-in-Known-clause-same_task g c = c.requires.same_task
+
+pub returns-in-Known-clause-meaning : goal.returns-in-Known-clause-meaning
+returns-in-Known-clause-meaning g c parts states seen = (λ f. f, λ f. f)
+
+pub returns-in-Known-clause-after : goal.returns-in-Known-clause-after
+returns-in-Known-clause-after g c =
+    let phase = phase_of c.args.task.now c.args.setting.now c.args.shape in
+    let log = c.in_ok-id.ensures.log ∙ c.in-Some.ensures.log in
+    let m = c.decide.new.self in
+    let arrives = subst (Arrives phase m (past_in phase c.reach.new.self) c.in-Some.reached) c.in-Known.is c.in_ok-id.ensures.arrives in
+    after_known phase _ _ m _ (past_in phase c.reach.new.self) c.in-Some.reached c.requires.phase arrives
+    (on_told phase _ _ c.args.self.now c.reach.new.self c.requires.stands c.in-Some.ensures.log) (guided_told phase _ _ c.args.self.now c.reach.new.self c.requires.stands c.in-Some.ensures.log)
+    (omega (arith, c.requires.allowed, ap (λ (l : Content). length l.pops) log))
+    (record {
+      visits = c.in_ok-push_pop.ensures.visits;
+      pops = c.in_ok-push_pop.ensures.pops ∙ ap (λ (p : Pop). m.log.pops ++ p ∷ []) c.pop_by-pop.ensures;
+      states = refl;
+      rows = refl;
+      tree = refl;
+      lists = refl;
+      least = refl;
+    })
+
+pub returns-in-Known-clause-pops : goal.returns-in-Known-clause-pops
+returns-in-Known-clause-pops g c =
+    let log = c.in_ok-id.ensures.log ∙ c.in-Some.ensures.log in
+    pops_one _ _ _ c.pop_by-pop.result _ (ap (λ (l : Content). l.pops) log) c.in_ok-push_pop.ensures.pops (ap (λ (p : Pop). is_final p.result) c.pop_by-pop.ensures)
+
+pub returns-in-Full-clause-same_task : goal.returns-in-Full-clause-same_task
+returns-in-Full-clause-same_task g c = c.requires.same_task
+
+pub returns-in-Full-clause-meaning : goal.returns-in-Full-clause-meaning
+returns-in-Full-clause-meaning g c parts states seen = (λ f. f, λ f. f)
+
+pub returns-in-Full-clause-after : goal.returns-in-Full-clause-after
+returns-in-Full-clause-after g c =
+    let phase = phase_of c.args.task.now c.args.setting.now c.args.shape in
+    let log = c.in_ok-id.ensures.log ∙ c.in-Some.ensures.log in
+    let m = c.decide.new.self in
+    let arrives = subst (Arrives phase m (past_in phase c.reach.new.self) c.in-Some.reached) c.in-Full.is c.in_ok-id.ensures.arrives in
+    after_full phase _ _ m _ (past_in phase c.reach.new.self) c.in-Some.reached c.requires.phase arrives
+    (on_told phase _ _ c.args.self.now c.reach.new.self c.requires.stands c.in-Some.ensures.log) (guided_told phase _ _ c.args.self.now c.reach.new.self c.requires.stands c.in-Some.ensures.log)
+    (omega (arith, c.requires.allowed, ap (λ (l : Content). length l.pops) log))
+    (record {
+      visits = c.in_ok-push_pop-2.ensures.visits;
+      pops = c.in_ok-push_pop-2.ensures.pops ∙ ap (λ (p : Pop). m.log.pops ++ p ∷ []) c.pop_by-pop-2.ensures;
+      states = refl;
+      rows = refl;
+      tree = refl;
+      lists = refl;
+      least = refl;
+    })
+
+pub returns-in-Full-clause-pops : goal.returns-in-Full-clause-pops
+returns-in-Full-clause-pops g c =
+    let log = c.in_ok-id.ensures.log ∙ c.in-Some.ensures.log in
+    pops_one _ _ _ c.pop_by-pop-2.result _ (ap (λ (l : Content). l.pops) log) c.in_ok-push_pop-2.ensures.pops (ap (λ (p : Pop). is_final p.result) c.pop_by-pop-2.ensures)
+
+pub visit-requires-clause-phase : goal.visit-requires-clause-phase
+visit-requires-clause-phase g c = c.requires.phase
+
+pub visit-requires-clause-arrives : goal.visit-requires-clause-arrives
+visit-requires-clause-arrives g c =
+    let phase = phase_of c.args.task.now c.args.setting.now c.args.shape in
+    let m = c.decide.new.self in
+    let r = c.in-Some.reached in
+    let a = subst (Arrives phase m (past_in phase c.reach.new.self) r) c.in-New.is c.in_ok-id.ensures.arrives in
+    subst (λ (l : Content). ArrivesAt phase m (past_of phase l.visits l.pops) r c.in-New.id false) (sym c.in_ok-id.ensures.log) (record { words = a.words; reaches = a.reaches; visits = a.decides })
+
+pub visit-requires-clause-allowed : goal.visit-requires-clause-allowed
+visit-requires-clause-allowed g c =
+    let log = c.in_ok-id.ensures.log ∙ c.in-Some.ensures.log in
+    omega (arith, c.requires.allowed, ap (λ (l : Content). length l.pops) log)
+
+pub visit-requires-clause-goes_on : goal.visit-requires-clause-goes_on
+visit-requires-clause-goes_on g c =
+    let phase = phase_of c.args.task.now c.args.setting.now c.args.shape in
+    on_told phase _ _ c.args.self.now c.decide.new.self c.requires.stands (c.in_ok-id.ensures.log ∙ c.in-Some.ensures.log)
+
+pub visit-requires-clause-same_task : goal.visit-requires-clause-same_task
+visit-requires-clause-same_task g c = c.requires.same_task
+
+pub visit-requires-clause-guided : goal.visit-requires-clause-guided
+visit-requires-clause-guided g c =
+    let phase = phase_of c.args.task.now c.args.setting.now c.args.shape in
+    guided_told phase _ _ c.args.self.now c.decide.new.self c.requires.stands (c.in_ok-id.ensures.log ∙ c.in-Some.ensures.log)
+
+pub returns-in-New-clause-same_task : goal.returns-in-New-clause-same_task
+returns-in-New-clause-same_task g c = c.visit.ensures.same_task
+
+pub returns-in-New-clause-meaning : goal.returns-in-New-clause-meaning
+returns-in-New-clause-meaning g c parts states seen = c.visit.ensures.meaning parts states seen
+
+pub returns-in-New-clause-after : goal.returns-in-New-clause-after
+returns-in-New-clause-after g c = c.visit.ensures.after
+
+pub returns-in-New-clause-pops : goal.returns-in-New-clause-pops
+returns-in-New-clause-pops g c =
+    subst (λ (ps : List Pop). IfOk c.visit.result (PopsMore ps c.visit.new.self.log.pops)) (ap (λ (l : Content). l.pops) (c.in_ok-id.ensures.log ∙ c.in-Some.ensures.log)) c.visit.ensures.pops
+
+pub visit-requires-in-Again-clause-phase : goal.visit-requires-in-Again-clause-phase
+visit-requires-in-Again-clause-phase g c = c.requires.phase
+
+pub visit-requires-in-Again-clause-arrives : goal.visit-requires-in-Again-clause-arrives
+visit-requires-in-Again-clause-arrives g c =
+    let phase = phase_of c.args.task.now c.args.setting.now c.args.shape in
+    let m = c.decide.new.self in
+    let r = c.in-Some.reached in
+    let a = subst (Arrives phase m (past_in phase c.reach.new.self) r) c.in-Again.is c.in_ok-id.ensures.arrives in
+    subst (λ (l : Content). ArrivesAt phase m (past_of phase l.visits l.pops) r c.in-Again.id true) (sym c.in_ok-id.ensures.log) (record { words = a.words; reaches = a.reaches; visits = a.decides })
+
+pub visit-requires-in-Again-clause-allowed : goal.visit-requires-in-Again-clause-allowed
+visit-requires-in-Again-clause-allowed g c =
+    let log = c.in_ok-id.ensures.log ∙ c.in-Some.ensures.log in
+    omega (arith, c.requires.allowed, ap (λ (l : Content). length l.pops) log)
+
+pub visit-requires-in-Again-clause-goes_on : goal.visit-requires-in-Again-clause-goes_on
+visit-requires-in-Again-clause-goes_on g c =
+    let phase = phase_of c.args.task.now c.args.setting.now c.args.shape in
+    on_told phase _ _ c.args.self.now c.decide.new.self c.requires.stands (c.in_ok-id.ensures.log ∙ c.in-Some.ensures.log)
+
+pub visit-requires-in-Again-clause-same_task : goal.visit-requires-in-Again-clause-same_task
+visit-requires-in-Again-clause-same_task g c = c.requires.same_task
+
+pub visit-requires-in-Again-clause-guided : goal.visit-requires-in-Again-clause-guided
+visit-requires-in-Again-clause-guided g c =
+    let phase = phase_of c.args.task.now c.args.setting.now c.args.shape in
+    guided_told phase _ _ c.args.self.now c.decide.new.self c.requires.stands (c.in_ok-id.ensures.log ∙ c.in-Some.ensures.log)
+
+pub returns-in-Again-clause-same_task : goal.returns-in-Again-clause-same_task
+returns-in-Again-clause-same_task g c = c.visit-in-Again.ensures.same_task
+
+pub returns-in-Again-clause-meaning : goal.returns-in-Again-clause-meaning
+returns-in-Again-clause-meaning g c parts states seen = c.visit-in-Again.ensures.meaning parts states seen
+
+pub returns-in-Again-clause-after : goal.returns-in-Again-clause-after
+returns-in-Again-clause-after g c = c.visit-in-Again.ensures.after
+
+pub returns-in-Again-clause-pops : goal.returns-in-Again-clause-pops
+returns-in-Again-clause-pops g c =
+    subst (λ (ps : List Pop). IfOk c.visit-in-Again.result (PopsMore ps c.visit-in-Again.new.self.log.pops)) (ap (λ (l : Content). l.pops) (c.in_ok-id.ensures.log ∙ c.in-Some.ensures.log)) c.visit-in-Again.ensures.pops
