@@ -1,5 +1,5 @@
 -- A pop by which a lawful log goes on.
-use Rattle.std.proofs.Common.{◌≡◌, ◌≢◌, ℕ, ◌+◌, ◌-◌, ◌<◌, ◌≤◌, Bool, true, false, List, [], ◌∷◌, ◌++◌, map, length, slice_get, Option, Some, None, refl, ap, sym, ◌∙◌, subst, arith, inl, inr, IfSome}
+use Rattle.std.proofs.Common.{◌≡◌, ◌≢◌, ℕ, ◌+◌, ◌-◌, ◌^◌, ◌<◌, ◌≤◌, Bool, true, false, List, [], ◌∷◌, ◌++◌, map, length, slice_get, Option, Some, None, refl, ap, sym, ◌∙◌, subst, arith, inl, inr, IfSome}
 use Rattle.std.specs.Prelude.{option_map, option_and_then, ◌+ℤ◌, pos, ℤ}
 use Rattle.std.specs.List.{remove, list_any}
 use Rattle.std.proofs.lemmas.Int.{ints}
@@ -28,6 +28,7 @@ use Rattle.search_log.specs.PendingLaws.{pending-popped, pending-other}
 use Rattle.search_log.specs.CounterLaws.{LeastStand, counter-pop_same, counter-pop_other}
 use Rattle.search_log.specs.TurnLaws.{bare, past_with, extend_bare}
 use Rattle.search_log.specs.LogLaws.{logged_bare}
+use Rattle.search_log.specs.SpaceLaws.{few_lists}
 use Rattle.std.specs.Prelude.{Vec}
 use Rattle.std.specs.declared.alloc.Global.{Global}
 use Rattle.lazy_search.specs.declared.rows.Row.{Row}
@@ -83,6 +84,10 @@ next_turn phase m words past r outcome made R on allowed result id g =
       id = id;
       g = g;
     }
+
+-- the number of its list is small
+pub list_small : (phase : Phase) (m : Machine) (words : List (List ℕ)) (past : Past) (r : Reached) (pop : Pop) (outcome : PopResult) → IsPhase phase → Reaches phase m words past r → pop ≡ pop_by r.popped outcome → pop.list < 2 ^ 8
+list_small phase m words past r pop outcome is R same = omega (arith, ap (λ (p : Pop). p.list) same, R.pops.exists, R.stood.count, few_lists phase is)
 
 -- the lists after it
 pub lists_popped : (phase : Phase) (lists new : OpenLists) (nodes : List Node) (pops : List Pop) (popped : Popped) (outcome : PopResult) → Numbered 0 nodes → ListsStand phase lists (past_with nodes pops) → Pops lists popped new

@@ -13,15 +13,6 @@ new-requires c =
     let is : c.deref.result.now ≡ map (is_preferred_by c.args.shape) (range_with_len 0 (lists_by c.args.shape)) = c.deref.ensures.value ∙ c.in_ok-sorts.ensures in
     omega (arith, few_sorts c.args.shape c.requires, ap length is, length-map-range_with_len (is_preferred_by c.args.shape) 0 (lists_by c.args.shape))
 
-pub returns-in_err-sorts : goal.returns-in_err-sorts
-returns-in_err-sorts c = rw c.from_residual.ensures tt
-
-pub returns-in_err-lists : goal.returns-in_err-lists
-returns-in_err-lists c = rw c.from_residual-in_err-lists.ensures tt
-
-pub returns-in_err-states : goal.returns-in_err-states
-returns-in_err-states c = rw c.from_residual-in_err-states.ensures tt
-
 pub returns : goal.returns
 returns c =
     let shape = c.args.shape in

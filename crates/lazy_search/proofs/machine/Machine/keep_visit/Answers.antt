@@ -36,15 +36,6 @@ overflow_cast-row c = record { fits = omega arith }
 pub put_row-requires : goal.put_row-requires
 put_row-requires c = omega (arith, c.requires.id, c.args.self.now.rows.ok.0)
 
-pub returns-in_err-put_row : goal.returns-in_err-put_row
-returns-in_err-put_row c = rw c.from_residual.ensures tt
-
-pub returns-in_err-push : goal.returns-in_err-push
-returns-in_err-push c = rw c.from_residual-in_err-push.ensures tt
-
-pub returns-in_err-push_visit : goal.returns-in_err-push_visit
-returns-in_err-push_visit c = rw c.from_residual-in_err-push_visit.ensures tt
-
 pub expand-requires-clause-lists : goal.expand-requires-clause-lists
 expand-requires-clause-lists c = c.requires.lists
 

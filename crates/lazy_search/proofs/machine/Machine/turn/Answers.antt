@@ -8,7 +8,7 @@ use Rattle.lazy_search.specs.declared.machine.Decision.{Decision}
 use Rattle.lazy_search.specs.declared.machine.Turned.{Turned}
 use Rattle.lazy_search.specs.Outcomes.{PopsMore}
 use Rattle.lazy_search.specs.Machines.{phase_of, past_in, Reaches, Arrives, ArrivesAt}
-use Rattle.lazy_search.proofs.Taking.{Stays, rests_told, on_told, guided_told, after_empty, after_known, after_full, pops_one}
+use Rattle.lazy_search.proofs.Taking.{Stays, rests_told, on_told, guided_told, after_empty, after_known, after_full, pops_one, list_small}
 use Rattle.lazy_search.proofs.machine.Machine.turn.Goals as goal
 
 pub reach-requires-clause-phase : goal.reach-requires-clause-phase
@@ -44,60 +44,29 @@ returns-in_default-clause-after g c =
 pub returns-in_default-clause-pops : goal.returns-in_default-clause-pops
 returns-in_default-clause-pops g c = ap (λ (m : Machine). m.log.pops) c.in_default.ensures.same
 
-pub returns-in_err-id-clause-same_task : goal.returns-in_err-id-clause-same_task
-returns-in_err-id-clause-same_task g c = rw c.from_residual.ensures tt
-
-pub returns-in_err-id-clause-meaning : goal.returns-in_err-id-clause-meaning
-returns-in_err-id-clause-meaning g c parts states seen = rw c.from_residual.ensures tt
-
-pub returns-in_err-id-clause-after : goal.returns-in_err-id-clause-after
-returns-in_err-id-clause-after g c = rw c.from_residual.ensures tt
-
-pub returns-in_err-id-clause-pops : goal.returns-in_err-id-clause-pops
-returns-in_err-id-clause-pops g c = rw c.from_residual.ensures tt
-
-pub returns-in_err-push_pop-clause-same_task : goal.returns-in_err-push_pop-clause-same_task
-returns-in_err-push_pop-clause-same_task g c = rw c.from_residual-in_err-push_pop.ensures tt
-
-pub returns-in_err-push_pop-clause-meaning : goal.returns-in_err-push_pop-clause-meaning
-returns-in_err-push_pop-clause-meaning g c parts states seen = rw c.from_residual-in_err-push_pop.ensures tt
-
-pub returns-in_err-push_pop-clause-after : goal.returns-in_err-push_pop-clause-after
-returns-in_err-push_pop-clause-after g c = rw c.from_residual-in_err-push_pop.ensures tt
-
-pub returns-in_err-push_pop-clause-pops : goal.returns-in_err-push_pop-clause-pops
-returns-in_err-push_pop-clause-pops g c = rw c.from_residual-in_err-push_pop.ensures tt
-
-pub returns-in_err-push_pop-2-clause-same_task : goal.returns-in_err-push_pop-2-clause-same_task
-returns-in_err-push_pop-2-clause-same_task g c = rw c.from_residual-in_err-push_pop-2.ensures tt
-
-pub returns-in_err-push_pop-2-clause-meaning : goal.returns-in_err-push_pop-2-clause-meaning
-returns-in_err-push_pop-2-clause-meaning g c parts states seen = rw c.from_residual-in_err-push_pop-2.ensures tt
-
-pub returns-in_err-push_pop-2-clause-after : goal.returns-in_err-push_pop-2-clause-after
-returns-in_err-push_pop-2-clause-after g c = rw c.from_residual-in_err-push_pop-2.ensures tt
-
-pub returns-in_err-push_pop-2-clause-pops : goal.returns-in_err-push_pop-2-clause-pops
-returns-in_err-push_pop-2-clause-pops g c = rw c.from_residual-in_err-push_pop-2.ensures tt
-
-pub returns-in-Known-clause-same_task : goal.returns-in-Known-clause-same_task
-returns-in-Known-clause-same_task g c = c.requires.same_task
-
-pub returns-in-Known-clause-meaning : goal.returns-in-Known-clause-meaning
-returns-in-Known-clause-meaning g c parts states seen = (λ f. f, λ f. f)
-
-pub returns-in-Known-clause-after : goal.returns-in-Known-clause-after
-returns-in-Known-clause-after g c =
+pub push_pop-requires : goal.push_pop-requires
+push_pop-requires g c =
     let phase = phase_of c.args.task.now c.args.setting.now c.args.shape in
-    let log = c.in_ok-id.ensures.log ∙ c.in-Some.ensures.log in
+    list_small phase _ _ _ c.in-Some.reached c.pop_by-pop.result _ c.requires.phase c.in-Some.ensures.reaches c.pop_by-pop.ensures
+
+pub returns-in_ok-push_pop-in-Known-clause-same_task : goal.returns-in_ok-push_pop-in-Known-clause-same_task
+returns-in_ok-push_pop-in-Known-clause-same_task g c = c.requires.same_task
+
+pub returns-in_ok-push_pop-in-Known-clause-meaning : goal.returns-in_ok-push_pop-in-Known-clause-meaning
+returns-in_ok-push_pop-in-Known-clause-meaning g c parts states seen = (λ f. f, λ f. f)
+
+pub returns-in_ok-push_pop-in-Known-clause-after : goal.returns-in_ok-push_pop-in-Known-clause-after
+returns-in_ok-push_pop-in-Known-clause-after g c =
+    let phase = phase_of c.args.task.now c.args.setting.now c.args.shape in
+    let log = c.in_ok-decide.ensures.log ∙ c.in-Some.ensures.log in
     let m = c.decide.new.self in
-    let arrives = subst (Arrives phase m (past_in phase c.reach.new.self) c.in-Some.reached) c.in-Known.is c.in_ok-id.ensures.arrives in
+    let arrives = subst (Arrives phase m (past_in phase c.reach.new.self) c.in-Some.reached) c.in-Known.is c.in_ok-decide.ensures.arrives in
     after_known phase _ _ m _ (past_in phase c.reach.new.self) c.in-Some.reached c.requires.phase arrives
     (on_told phase _ _ c.args.self.now c.reach.new.self c.requires.stands c.in-Some.ensures.log) (guided_told phase _ _ c.args.self.now c.reach.new.self c.requires.stands c.in-Some.ensures.log)
     (omega (arith, c.requires.allowed, ap (λ (l : Content). length l.pops) log))
     (record {
-      visits = c.in_ok-push_pop.ensures.visits;
-      pops = c.in_ok-push_pop.ensures.pops ∙ ap (λ (p : Pop). m.log.pops ++ p ∷ []) c.pop_by-pop.ensures;
+      visits = c.in_ok-push_pop-in-Known.ensures.visits;
+      pops = c.in_ok-push_pop-in-Known.ensures.pops ∙ ap (λ (p : Pop). m.log.pops ++ p ∷ []) c.pop_by-pop.ensures;
       states = refl;
       rows = refl;
       tree = refl;
@@ -105,29 +74,34 @@ returns-in-Known-clause-after g c =
       least = refl;
     })
 
-pub returns-in-Known-clause-pops : goal.returns-in-Known-clause-pops
-returns-in-Known-clause-pops g c =
-    let log = c.in_ok-id.ensures.log ∙ c.in-Some.ensures.log in
-    pops_one _ _ _ c.pop_by-pop.result _ (ap (λ (l : Content). l.pops) log) c.in_ok-push_pop.ensures.pops (ap (λ (p : Pop). is_final p.result) c.pop_by-pop.ensures)
+pub returns-in_ok-push_pop-in-Known-clause-pops : goal.returns-in_ok-push_pop-in-Known-clause-pops
+returns-in_ok-push_pop-in-Known-clause-pops g c =
+    let log = c.in_ok-decide.ensures.log ∙ c.in-Some.ensures.log in
+    pops_one _ _ _ c.pop_by-pop.result _ (ap (λ (l : Content). l.pops) log) c.in_ok-push_pop-in-Known.ensures.pops (ap (λ (p : Pop). is_final p.result) c.pop_by-pop.ensures)
 
-pub returns-in-Full-clause-same_task : goal.returns-in-Full-clause-same_task
-returns-in-Full-clause-same_task g c = c.requires.same_task
-
-pub returns-in-Full-clause-meaning : goal.returns-in-Full-clause-meaning
-returns-in-Full-clause-meaning g c parts states seen = (λ f. f, λ f. f)
-
-pub returns-in-Full-clause-after : goal.returns-in-Full-clause-after
-returns-in-Full-clause-after g c =
+pub push_pop-requires-in-Full : goal.push_pop-requires-in-Full
+push_pop-requires-in-Full g c =
     let phase = phase_of c.args.task.now c.args.setting.now c.args.shape in
-    let log = c.in_ok-id.ensures.log ∙ c.in-Some.ensures.log in
+    list_small phase _ _ _ c.in-Some.reached c.pop_by-pop-in-Full.result _ c.requires.phase c.in-Some.ensures.reaches c.pop_by-pop-in-Full.ensures
+
+pub returns-in_ok-push_pop-in-Full-clause-same_task : goal.returns-in_ok-push_pop-in-Full-clause-same_task
+returns-in_ok-push_pop-in-Full-clause-same_task g c = c.requires.same_task
+
+pub returns-in_ok-push_pop-in-Full-clause-meaning : goal.returns-in_ok-push_pop-in-Full-clause-meaning
+returns-in_ok-push_pop-in-Full-clause-meaning g c parts states seen = (λ f. f, λ f. f)
+
+pub returns-in_ok-push_pop-in-Full-clause-after : goal.returns-in_ok-push_pop-in-Full-clause-after
+returns-in_ok-push_pop-in-Full-clause-after g c =
+    let phase = phase_of c.args.task.now c.args.setting.now c.args.shape in
+    let log = c.in_ok-decide.ensures.log ∙ c.in-Some.ensures.log in
     let m = c.decide.new.self in
-    let arrives = subst (Arrives phase m (past_in phase c.reach.new.self) c.in-Some.reached) c.in-Full.is c.in_ok-id.ensures.arrives in
+    let arrives = subst (Arrives phase m (past_in phase c.reach.new.self) c.in-Some.reached) c.in-Full.is c.in_ok-decide.ensures.arrives in
     after_full phase _ _ m _ (past_in phase c.reach.new.self) c.in-Some.reached c.requires.phase arrives
     (on_told phase _ _ c.args.self.now c.reach.new.self c.requires.stands c.in-Some.ensures.log) (guided_told phase _ _ c.args.self.now c.reach.new.self c.requires.stands c.in-Some.ensures.log)
     (omega (arith, c.requires.allowed, ap (λ (l : Content). length l.pops) log))
     (record {
-      visits = c.in_ok-push_pop-2.ensures.visits;
-      pops = c.in_ok-push_pop-2.ensures.pops ∙ ap (λ (p : Pop). m.log.pops ++ p ∷ []) c.pop_by-pop-2.ensures;
+      visits = c.in_ok-push_pop-in-Full.ensures.visits;
+      pops = c.in_ok-push_pop-in-Full.ensures.pops ∙ ap (λ (p : Pop). m.log.pops ++ p ∷ []) c.pop_by-pop-in-Full.ensures;
       states = refl;
       rows = refl;
       tree = refl;
@@ -135,10 +109,10 @@ returns-in-Full-clause-after g c =
       least = refl;
     })
 
-pub returns-in-Full-clause-pops : goal.returns-in-Full-clause-pops
-returns-in-Full-clause-pops g c =
-    let log = c.in_ok-id.ensures.log ∙ c.in-Some.ensures.log in
-    pops_one _ _ _ c.pop_by-pop-2.result _ (ap (λ (l : Content). l.pops) log) c.in_ok-push_pop-2.ensures.pops (ap (λ (p : Pop). is_final p.result) c.pop_by-pop-2.ensures)
+pub returns-in_ok-push_pop-in-Full-clause-pops : goal.returns-in_ok-push_pop-in-Full-clause-pops
+returns-in_ok-push_pop-in-Full-clause-pops g c =
+    let log = c.in_ok-decide.ensures.log ∙ c.in-Some.ensures.log in
+    pops_one _ _ _ c.pop_by-pop-in-Full.result _ (ap (λ (l : Content). l.pops) log) c.in_ok-push_pop-in-Full.ensures.pops (ap (λ (p : Pop). is_final p.result) c.pop_by-pop-in-Full.ensures)
 
 pub visit-requires-clause-phase : goal.visit-requires-clause-phase
 visit-requires-clause-phase g c = c.requires.phase
@@ -148,18 +122,18 @@ visit-requires-clause-arrives g c =
     let phase = phase_of c.args.task.now c.args.setting.now c.args.shape in
     let m = c.decide.new.self in
     let r = c.in-Some.reached in
-    let a = subst (Arrives phase m (past_in phase c.reach.new.self) r) c.in-New.is c.in_ok-id.ensures.arrives in
-    subst (λ (l : Content). ArrivesAt phase m (past_of phase l.visits l.pops) r c.in-New.id false) (sym c.in_ok-id.ensures.log) (record { words = a.words; reaches = a.reaches; visits = a.decides })
+    let a = subst (Arrives phase m (past_in phase c.reach.new.self) r) c.in-New.is c.in_ok-decide.ensures.arrives in
+    subst (λ (l : Content). ArrivesAt phase m (past_of phase l.visits l.pops) r c.in-New.id false) (sym c.in_ok-decide.ensures.log) (record { words = a.words; reaches = a.reaches; visits = a.decides })
 
 pub visit-requires-clause-allowed : goal.visit-requires-clause-allowed
 visit-requires-clause-allowed g c =
-    let log = c.in_ok-id.ensures.log ∙ c.in-Some.ensures.log in
+    let log = c.in_ok-decide.ensures.log ∙ c.in-Some.ensures.log in
     omega (arith, c.requires.allowed, ap (λ (l : Content). length l.pops) log)
 
 pub visit-requires-clause-goes_on : goal.visit-requires-clause-goes_on
 visit-requires-clause-goes_on g c =
     let phase = phase_of c.args.task.now c.args.setting.now c.args.shape in
-    on_told phase _ _ c.args.self.now c.decide.new.self c.requires.stands (c.in_ok-id.ensures.log ∙ c.in-Some.ensures.log)
+    on_told phase _ _ c.args.self.now c.decide.new.self c.requires.stands (c.in_ok-decide.ensures.log ∙ c.in-Some.ensures.log)
 
 pub visit-requires-clause-same_task : goal.visit-requires-clause-same_task
 visit-requires-clause-same_task g c = c.requires.same_task
@@ -167,7 +141,7 @@ visit-requires-clause-same_task g c = c.requires.same_task
 pub visit-requires-clause-guided : goal.visit-requires-clause-guided
 visit-requires-clause-guided g c =
     let phase = phase_of c.args.task.now c.args.setting.now c.args.shape in
-    guided_told phase _ _ c.args.self.now c.decide.new.self c.requires.stands (c.in_ok-id.ensures.log ∙ c.in-Some.ensures.log)
+    guided_told phase _ _ c.args.self.now c.decide.new.self c.requires.stands (c.in_ok-decide.ensures.log ∙ c.in-Some.ensures.log)
 
 pub returns-in-New-clause-same_task : goal.returns-in-New-clause-same_task
 returns-in-New-clause-same_task g c = c.visit.ensures.same_task
@@ -180,7 +154,7 @@ returns-in-New-clause-after g c = c.visit.ensures.after
 
 pub returns-in-New-clause-pops : goal.returns-in-New-clause-pops
 returns-in-New-clause-pops g c =
-    subst (λ (ps : List Pop). IfOk c.visit.result (PopsMore ps c.visit.new.self.log.pops)) (ap (λ (l : Content). l.pops) (c.in_ok-id.ensures.log ∙ c.in-Some.ensures.log)) c.visit.ensures.pops
+    subst (λ (ps : List Pop). IfOk c.visit.result (PopsMore ps c.visit.new.self.log.pops)) (ap (λ (l : Content). l.pops) (c.in_ok-decide.ensures.log ∙ c.in-Some.ensures.log)) c.visit.ensures.pops
 
 pub visit-requires-in-Again-clause-phase : goal.visit-requires-in-Again-clause-phase
 visit-requires-in-Again-clause-phase g c = c.requires.phase
@@ -190,18 +164,18 @@ visit-requires-in-Again-clause-arrives g c =
     let phase = phase_of c.args.task.now c.args.setting.now c.args.shape in
     let m = c.decide.new.self in
     let r = c.in-Some.reached in
-    let a = subst (Arrives phase m (past_in phase c.reach.new.self) r) c.in-Again.is c.in_ok-id.ensures.arrives in
-    subst (λ (l : Content). ArrivesAt phase m (past_of phase l.visits l.pops) r c.in-Again.id true) (sym c.in_ok-id.ensures.log) (record { words = a.words; reaches = a.reaches; visits = a.decides })
+    let a = subst (Arrives phase m (past_in phase c.reach.new.self) r) c.in-Again.is c.in_ok-decide.ensures.arrives in
+    subst (λ (l : Content). ArrivesAt phase m (past_of phase l.visits l.pops) r c.in-Again.id true) (sym c.in_ok-decide.ensures.log) (record { words = a.words; reaches = a.reaches; visits = a.decides })
 
 pub visit-requires-in-Again-clause-allowed : goal.visit-requires-in-Again-clause-allowed
 visit-requires-in-Again-clause-allowed g c =
-    let log = c.in_ok-id.ensures.log ∙ c.in-Some.ensures.log in
+    let log = c.in_ok-decide.ensures.log ∙ c.in-Some.ensures.log in
     omega (arith, c.requires.allowed, ap (λ (l : Content). length l.pops) log)
 
 pub visit-requires-in-Again-clause-goes_on : goal.visit-requires-in-Again-clause-goes_on
 visit-requires-in-Again-clause-goes_on g c =
     let phase = phase_of c.args.task.now c.args.setting.now c.args.shape in
-    on_told phase _ _ c.args.self.now c.decide.new.self c.requires.stands (c.in_ok-id.ensures.log ∙ c.in-Some.ensures.log)
+    on_told phase _ _ c.args.self.now c.decide.new.self c.requires.stands (c.in_ok-decide.ensures.log ∙ c.in-Some.ensures.log)
 
 pub visit-requires-in-Again-clause-same_task : goal.visit-requires-in-Again-clause-same_task
 visit-requires-in-Again-clause-same_task g c = c.requires.same_task
@@ -209,7 +183,7 @@ visit-requires-in-Again-clause-same_task g c = c.requires.same_task
 pub visit-requires-in-Again-clause-guided : goal.visit-requires-in-Again-clause-guided
 visit-requires-in-Again-clause-guided g c =
     let phase = phase_of c.args.task.now c.args.setting.now c.args.shape in
-    guided_told phase _ _ c.args.self.now c.decide.new.self c.requires.stands (c.in_ok-id.ensures.log ∙ c.in-Some.ensures.log)
+    guided_told phase _ _ c.args.self.now c.decide.new.self c.requires.stands (c.in_ok-decide.ensures.log ∙ c.in-Some.ensures.log)
 
 pub returns-in-Again-clause-same_task : goal.returns-in-Again-clause-same_task
 returns-in-Again-clause-same_task g c = c.visit-in-Again.ensures.same_task
@@ -222,4 +196,4 @@ returns-in-Again-clause-after g c = c.visit-in-Again.ensures.after
 
 pub returns-in-Again-clause-pops : goal.returns-in-Again-clause-pops
 returns-in-Again-clause-pops g c =
-    subst (λ (ps : List Pop). IfOk c.visit-in-Again.result (PopsMore ps c.visit-in-Again.new.self.log.pops)) (ap (λ (l : Content). l.pops) (c.in_ok-id.ensures.log ∙ c.in-Some.ensures.log)) c.visit-in-Again.ensures.pops
+    subst (λ (ps : List Pop). IfOk c.visit-in-Again.result (PopsMore ps c.visit-in-Again.new.self.log.pops)) (ap (λ (l : Content). l.pops) (c.in_ok-decide.ensures.log ∙ c.in-Some.ensures.log)) c.visit-in-Again.ensures.pops

@@ -5,9 +5,8 @@ use Rattle.open_lists.specs.declared.entry.Popped.{Popped}
 use Rattle.search_log.specs.declared.turns.PopResult.TheVariants.{Known, Dead, Goal, Visited, Again}
 use Rattle.search_log.specs.TurnLaws.{past_with}
 use Rattle.search_log.specs.LogLaws.{Numbers}
-use Rattle.search_log.specs.SpaceLaws.{few_lists}
 use Rattle.lazy_search.proofs.Deciding.{to_state, rows_count}
-use Rattle.lazy_search.proofs.Taking.{lists_popped}
+use Rattle.lazy_search.proofs.Taking.{lists_popped, list_small}
 use Rattle.std.specs.declared.alloc.Global.{Global}
 use Rattle.sas_task.specs.Runs.{is_goal}
 use Rattle.sas_task.specs.States.{IsState}
@@ -146,8 +145,7 @@ keep_visit-requires-clause-counters g c =
 pub push_pop-requires : goal.push_pop-requires
 push_pop-requires g c =
     let phase = phase_of c.args.task.now c.args.setting.now c.args.shape in
-    let R = c.requires.arrives.reaches in
-    omega (arith, ap (λ (p : Pop). p.list) c.pop_by.ensures, R.pops.exists, R.stood.count, few_lists phase c.requires.phase)
+    list_small phase _ _ _ c.args.reached c.pop_by.result _ c.requires.phase c.requires.arrives.reaches c.pop_by.ensures
 
 pub returns-clause-same_task : goal.returns-clause-same_task
 returns-clause-same_task g c = c.in_ok-visit.ensures.same_task
@@ -171,39 +169,3 @@ returns-clause-pops g c =
     c.in_ok-push_pop.ensures.pops ∙ ap (λ (ps : List Pop). ps ++ c.pop_by.result ∷ []) c.in_ok-keep_visit.ensures.pops ∙ ap (λ (p : Pop). m.log.pops ++ p ∷ []) (c.pop_by.ensures ∙ ap (pop_by r.popped) c.outcome_of-outcome.ensures) in
     subst (PopsMore m.log.pops c.push_pop.new.self.pops) (sym (c.turned_by.ensures ∙ ap turned_by c.outcome_of-outcome.ensures))
     (pops_made m.log.pops c.push_pop.new.self.pops r.popped c.args.again seen.dead goal_is more)
-
-pub returns-in_err-visit-clause-same_task : goal.returns-in_err-visit-clause-same_task
-returns-in_err-visit-clause-same_task g c = rw c.from_residual.ensures tt
-
-pub returns-in_err-visit-clause-meaning : goal.returns-in_err-visit-clause-meaning
-returns-in_err-visit-clause-meaning g c parts states seen = rw c.from_residual.ensures tt
-
-pub returns-in_err-visit-clause-after : goal.returns-in_err-visit-clause-after
-returns-in_err-visit-clause-after g c = rw c.from_residual.ensures tt
-
-pub returns-in_err-visit-clause-pops : goal.returns-in_err-visit-clause-pops
-returns-in_err-visit-clause-pops g c = rw c.from_residual.ensures tt
-
-pub returns-in_err-keep_visit-clause-same_task : goal.returns-in_err-keep_visit-clause-same_task
-returns-in_err-keep_visit-clause-same_task g c = rw c.from_residual-in_err-keep_visit.ensures tt
-
-pub returns-in_err-keep_visit-clause-meaning : goal.returns-in_err-keep_visit-clause-meaning
-returns-in_err-keep_visit-clause-meaning g c parts states seen = rw c.from_residual-in_err-keep_visit.ensures tt
-
-pub returns-in_err-keep_visit-clause-after : goal.returns-in_err-keep_visit-clause-after
-returns-in_err-keep_visit-clause-after g c = rw c.from_residual-in_err-keep_visit.ensures tt
-
-pub returns-in_err-keep_visit-clause-pops : goal.returns-in_err-keep_visit-clause-pops
-returns-in_err-keep_visit-clause-pops g c = rw c.from_residual-in_err-keep_visit.ensures tt
-
-pub returns-in_err-push_pop-clause-same_task : goal.returns-in_err-push_pop-clause-same_task
-returns-in_err-push_pop-clause-same_task g c = rw c.from_residual-in_err-push_pop.ensures tt
-
-pub returns-in_err-push_pop-clause-meaning : goal.returns-in_err-push_pop-clause-meaning
-returns-in_err-push_pop-clause-meaning g c parts states seen = rw c.from_residual-in_err-push_pop.ensures tt
-
-pub returns-in_err-push_pop-clause-after : goal.returns-in_err-push_pop-clause-after
-returns-in_err-push_pop-clause-after g c = rw c.from_residual-in_err-push_pop.ensures tt
-
-pub returns-in_err-push_pop-clause-pops : goal.returns-in_err-push_pop-clause-pops
-returns-in_err-push_pop-clause-pops g c = rw c.from_residual-in_err-push_pop.ensures tt
