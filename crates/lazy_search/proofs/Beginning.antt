@@ -1,6 +1,6 @@
 -- The machine that has visited the initial state.
-use Rattle.std.proofs.Common.{◌≡◌, ◌≢◌, ℕ, zero, suc, ◌+◌, ◌-◌, ◌*◌, ◌<◌, ◌≤◌, ◌^◌, Bool, true, false, not, List, [], ◌∷◌, ◌++◌, map, length, slice_get, slice_index, Option, Some, None, refl, ap, sym, ◌∙◌, subst, arith, inl, inr, pos}
-use Rattle.std.specs.Prelude.{◌&&◌, if◌then◌else◌, ◌-ℤ◌, ℤ, negsuc, ◌+ℤ◌, ◌≤ℤ◌, nat_lt}
+use Rattle.std.proofs.Common.{◌≡◌, ◌≢◌, ℕ, zero, suc, ◌-◌, ◌*◌, ◌<◌, ◌≤◌, ◌^◌, Bool, true, false, not, List, [], ◌∷◌, ◌++◌, map, length, slice_get, slice_index, Option, Some, None, refl, ap, sym, ◌∙◌, subst, arith, pos}
+use Rattle.std.specs.Prelude.{◌&&◌, if◌then◌else◌, ◌-ℤ◌, negsuc, ◌+ℤ◌, ◌≤ℤ◌, nat_lt}
 use Rattle.std.specs.List.{range_with_len}
 use Rattle.std.proofs.lemmas.Int.{ints}
 use Rattle.std.proofs.lemmas.Bool.{lt-ltb, or_from}
@@ -14,7 +14,7 @@ use Rattle.state_registry.specs.declared.interned.Interned.{Interned}
 use Rattle.state_registry.specs.declared.interned.Interned.TheVariants.{New, Known, Full}
 use Rattle.state_registry.specs.Interning.{Interns}
 use Rattle.open_lists.specs.declared.lists.OpenLists.{OpenLists}
-use Rattle.open_lists.specs.Lists.{Holds, is_preferred, is_set, boost_of, counter as counter_now}
+use Rattle.open_lists.specs.Lists.{is_preferred, is_set, boost_of, counter as counter_now}
 use Rattle.guide.specs.declared.seen.Seen.{Seen}
 use Rattle.relaxed_task.specs.Reached.{IsDead}
 use Rattle.search_log.specs.declared.setting.Setting.{Setting}
@@ -23,10 +23,9 @@ use Rattle.search_log.specs.Logs.{Visit, Content}
 use Rattle.std.specs.Prelude.{Vec}
 use Rattle.std.specs.declared.alloc.Global.{Global}
 use Rattle.search_log.specs.Phases.{Phase, IsPhase, is_for_preferred}
-use Rattle.search_log.specs.Places.{Place, Node, Past, latest, start_place, start_past, node_at, is_goal_node}
+use Rattle.search_log.specs.Places.{Node, start_place, start_past}
 use Rattle.search_log.specs.Pending.{counter}
-use Rattle.search_log.specs.Lawful.{Logged, GoesOn, is_full}
-use Rattle.search_log.specs.Ends.{EndsInGoal}
+use Rattle.search_log.specs.Lawful.{Logged}
 use Rattle.search_log.specs.Elements.{one_at}
 use Rattle.search_log.specs.CounterLaws.{LeastStand, least_visited}
 use Rattle.search_log.specs.TurnLaws.{past_with}
@@ -42,7 +41,7 @@ use Rattle.lazy_search.specs.Rows.{row_put}
 use Rattle.lazy_search.specs.Shapes.{lists_by}
 use Rattle.lazy_search.specs.Outcomes.{outcome_of, turned_by}
 use Rattle.lazy_search.specs.Visits.{IsBlank, row_for}
-use Rattle.lazy_search.specs.Machines.{phase_of, row_of, packed_at, visit_at, TreeStands, ListsStand, Rests, IsGuided, TurnEnds}
+use Rattle.lazy_search.specs.Machines.{phase_of, row_of, TreeStands, ListsStand, Rests, IsGuided, TurnEnds}
 use Rattle.lazy_search.proofs.Growing.{Grown, lists_visited}
 use Rattle.lazy_search.proofs.Visiting.{Noted, noted_grows, counters_low}
 

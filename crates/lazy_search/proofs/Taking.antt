@@ -1,7 +1,6 @@
 -- A pop by which a lawful log goes on.
-use Rattle.std.proofs.Common.{◌≡◌, ◌≢◌, ℕ, ◌+◌, ◌-◌, ◌^◌, ◌<◌, ◌≤◌, Bool, true, false, List, [], ◌∷◌, ◌++◌, map, length, slice_get, Option, Some, None, refl, ap, sym, ◌∙◌, subst, arith, inl, inr, IfSome}
+use Rattle.std.proofs.Common.{◌≡◌, ℕ, ◌-◌, ◌^◌, ◌<◌, Bool, false, List, [], ◌∷◌, ◌++◌, map, length, slice_get, Option, Some, None, refl, ap, sym, ◌∙◌, subst, arith, inl, inr, IfSome}
 use Rattle.std.specs.Prelude.{option_map, option_and_then, ◌+ℤ◌, pos, ℤ}
-use Rattle.std.specs.List.{remove, list_any}
 use Rattle.std.proofs.lemmas.Int.{ints}
 use Rattle.std.proofs.lemmas.List.{length-append}
 use Rattle.std.proofs.lemmas.List.Folds.{list_any-append}
@@ -9,15 +8,15 @@ use Rattle.std.proofs.lemmas.Bool.{cases_eq, or_from}
 use Rattle.std.proofs.lemmas.Option.{slice_get_within}
 use Rattle.open_lists.specs.declared.lists.OpenLists.{OpenLists}
 use Rattle.open_lists.specs.declared.entry.Popped.{Popped}
-use Rattle.open_lists.specs.Items.{Item, popped_item}
-use Rattle.open_lists.specs.Lists.{Pops, Holds, TakesList, counter as counter_now}
+use Rattle.open_lists.specs.Items.{popped_item}
+use Rattle.open_lists.specs.Lists.{Pops, Holds, counter as counter_now}
 use Rattle.search_log.specs.declared.turns.Pop.{Pop}
 use Rattle.search_log.specs.declared.turns.PopResult.{PopResult}
 use Rattle.search_log.specs.declared.turns.PopResult.TheVariants.{Full, Known}
 use Rattle.guide.specs.declared.seen.Seen.{Seen}
 use Rattle.search_log.specs.Logs.{Visit, Content}
 use Rattle.search_log.specs.Phases.{Phase, IsPhase, lists_of}
-use Rattle.search_log.specs.Places.{Place, Node, Past, Turn, latest, id_of, place_after, place_by, past_of, reached, makes_visit, is_goal_node}
+use Rattle.search_log.specs.Places.{Node, Past, latest, id_of, place_after, place_by, past_of, reached, makes_visit}
 use Rattle.search_log.specs.Pending.{pending, counter}
 use Rattle.search_log.specs.Lawful.{Logged, IsNext, GoesOn, result_of, is_full}
 use Rattle.search_log.specs.Ends.{EndsFull}
@@ -26,7 +25,7 @@ use Rattle.search_log.specs.Sound.{Numbered}
 use Rattle.search_log.specs.Elements.{slice_get-push_at}
 use Rattle.search_log.specs.PendingLaws.{pending-popped, pending-other}
 use Rattle.search_log.specs.CounterLaws.{LeastStand, counter-pop_same, counter-pop_other}
-use Rattle.search_log.specs.TurnLaws.{bare, past_with, extend_bare}
+use Rattle.search_log.specs.TurnLaws.{past_with, extend_bare}
 use Rattle.search_log.specs.LogLaws.{logged_bare}
 use Rattle.search_log.specs.SpaceLaws.{few_lists}
 use Rattle.std.specs.Prelude.{Vec}
@@ -40,7 +39,7 @@ use Rattle.lazy_search.specs.declared.machine.Reached.{Reached}
 use Rattle.lazy_search.specs.Outcomes.{pop_by, PopsOne}
 use Rattle.lazy_search.specs.declared.machine.Decision.TheVariants as decision
 use Rattle.lazy_search.specs.declared.machine.Turned.TheVariants.{Empty, Done, AtFull}
-use Rattle.lazy_search.specs.Machines.{past_in, packed_at, TreeStands, ListsStand, Keeps, Rests, GoesFrom, place_there, Reaches, Arrives, IsGuided, AfterTurn}
+use Rattle.lazy_search.specs.Machines.{past_in, packed_at, TreeStands, ListsStand, Rests, GoesFrom, place_there, Reaches, Arrives, IsGuided, AfterTurn}
 use Rattle.lazy_search.proofs.Reaching.{sound_of}
 
 -- where a pop of an entry leads

@@ -1,7 +1,6 @@
 // A turn of a search.
-ghost use Rattle.std.specs.Prelude.{◌≡◌, ◌<◌, ◌≤◌, ◌+◌, ◌-◌, ◌^◌, ◌≢◌, ◌↔◌, ℕ, true, List, [], ◌++◌, ◌∷◌};
-ghost use Rattle.std.specs.Prelude.{length, pos, negsuc, ◌+ℤ◌, ◌≤ℤ◌, IfOk, OnOk, IfSome, IfNone, map};
-ghost use Rattle.std.specs.List.{range_with_len};
+ghost use Rattle.std.specs.Prelude.{◌≡◌, ◌<◌, ◌≤◌, ◌+◌, ◌-◌, ◌^◌, ◌≢◌, ◌↔◌, ℕ, true, List, []};
+ghost use Rattle.std.specs.Prelude.{length, pos, negsuc, ◌+ℤ◌, ◌≤ℤ◌, IfOk, OnOk, IfSome, IfNone};
 ghost use Rattle.std.specs.Option.{ForSome};
 
 use crate::entries::{Chosen, are_short, expand};

@@ -1,4 +1,4 @@
-use Rattle.std.proofs.Common.{◌≡◌, ◌≢◌, ◌<◌, ◌≤◌, ◌^◌, ℕ, Bool, true, List, [], ◌∷◌, ◌++◌, refl, ap, sym, ◌∙◌, subst, arith, length}
+use Rattle.std.proofs.Common.{◌≡◌, ◌≢◌, ◌<◌, ◌≤◌, ℕ, List, [], ◌∷◌, refl, ap, sym, ◌∙◌, subst, arith}
 use Rattle.std.specs.Prelude.{Option, IfSome, Vec, filter, not, ◌&&◌}
 use Rattle.std.specs.declared.alloc.Global.{Global}
 use Rattle.sas_task.specs.Runs.{start_of, is_goal}
@@ -14,27 +14,15 @@ use Rattle.lazy_search.specs.declared.machine.Machine.{Machine}
 use Rattle.lazy_search.specs.declared.machine.Turned.{Turned}
 use Rattle.lazy_search.specs.declared.machine.Turned.TheVariants.{Empty}
 use Rattle.lazy_search.specs.States.{AreFor}
-use Rattle.lazy_search.specs.Outcomes.{outcome_of, turned_by}
+use Rattle.lazy_search.specs.Outcomes.{turned_by}
 use Rattle.lazy_search.specs.Visits.{row_for, Grows}
 use Rattle.lazy_search.specs.Machines.{phase_of, AfterTurn}
 use Rattle.lazy_search.proofs.Visiting.{Noted}
 use Rattle.lazy_search.proofs.Beginning.{first_words, arrival_first, visit_first, rests_first, guided_first, first_ends, counters_first, not_empty_first}
 use Rattle.lazy_search.proofs.machine.Machine.begin.Goals as goal
 
-pub start-requires : goal.start-requires
-start-requires g c = c.requires.blank.ready
-
-pub intern-requires-clause-ready : goal.intern-requires-clause-ready
-intern-requires-clause-ready g c = c.start.ensures.ready
-
 pub intern-requires-clause-state : goal.intern-requires-clause-state
 intern-requires-clause-state g c = subst (IsState c.args.task.now.variables) (sym c.start.ensures.next) (start-state c.args.task.now c.requires.phase.task)
-
-pub find_applicable-requires : goal.find_applicable-requires
-find_applicable-requires g c = c.in_ok-_first.ensures.ready
-
-pub visit-requires-clause-same_task : goal.visit-requires-clause-same_task
-visit-requires-clause-same_task g c = c.requires.same_task
 
 pub visit-requires-clause-state : goal.visit-requires-clause-state
 visit-requires-clause-state g c =
@@ -47,35 +35,11 @@ visit-requires-clause-applicable g c =
     c.deref-2.ensures.value ∙ c.find_applicable.ensures.applicable
     ∙ ap (applicable_operators c.args.task.now) (sym (c.deref.ensures.value ∙ ap (λ (v : Vec ℕ Global). v.items) c.find_applicable.ensures.next))
 
-pub is_goal-is_goal-requires : goal.is_goal-is_goal-requires
-is_goal-is_goal-requires g c = c.find_applicable.ensures.ready
-
-pub keep_visit-requires-clause-guides : goal.keep_visit-requires-clause-guides
-keep_visit-requires-clause-guides g c = c.requires.phase.few_guides
-
 pub keep_visit-requires-clause-weight : goal.keep_visit-requires-clause-weight
 keep_visit-requires-clause-weight g c x is = (subst (λ (o : Option ℕ). IfSome o (λ w. (0 < w) × (w ≤ 1000))) is c.requires.phase.setting.weight).1
 
-pub keep_visit-requires-clause-id : goal.keep_visit-requires-clause-id
-keep_visit-requires-clause-id g c = omega arith
-
-pub keep_visit-requires-clause-g : goal.keep_visit-requires-clause-g
-keep_visit-requires-clause-g g c = omega arith
-
-pub keep_visit-requires-clause-real : goal.keep_visit-requires-clause-real
-keep_visit-requires-clause-real g c = omega arith
-
-pub keep_visit-requires-clause-lists : goal.keep_visit-requires-clause-lists
-keep_visit-requires-clause-lists g c = c.requires.blank.count
-
 pub keep_visit-requires-clause-counters : goal.keep_visit-requires-clause-counters
 keep_visit-requires-clause-counters g c = counters_first c.args.task.now c.args.setting.now c.args.shape c.args.self.now c.requires.phase c.requires.blank
-
-pub returns-clause-same_task : goal.returns-clause-same_task
-returns-clause-same_task g c = c.in_ok-visit.ensures.same_task
-
-pub returns-clause-meaning : goal.returns-clause-meaning
-returns-clause-meaning g c parts states seen = c.in_ok-visit.ensures.fits_stay parts states seen
 
 pub returns-clause-pops : goal.returns-clause-pops
 returns-clause-pops g c = c.in_ok-keep_visit.ensures.pops ∙ c.requires.blank.pops

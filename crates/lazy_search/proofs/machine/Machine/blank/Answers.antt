@@ -1,12 +1,9 @@
-use Rattle.std.proofs.Common.{◌≡◌, ℕ, Bool, List, map, length, refl, ap, sym, ◌∙◌, arith}
+use Rattle.std.proofs.Common.{◌≡◌, map, length, refl, ap, ◌∙◌, arith}
 use Rattle.std.specs.List.{range_with_len}
 use Rattle.std.proofs.lemmas.List.FromFn.{length-map-range_with_len}
 use Rattle.lazy_search.specs.Shapes.{lists_by, is_preferred_by}
 use Rattle.lazy_search.proofs.Beginning.{sorts_first, few_sorts}
 use Rattle.lazy_search.proofs.machine.Machine.blank.Goals as goal
-
-pub sorts-requires : goal.sorts-requires
-sorts-requires c = c.requires
 
 pub new-requires : goal.new-requires
 new-requires c =

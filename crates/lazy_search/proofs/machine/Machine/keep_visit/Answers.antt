@@ -1,7 +1,7 @@
-use Rattle.std.proofs.Common.{◌≡◌, ◌<◌, ◌^◌, ℕ, Bool, true, false, not, List, refl, ap, sym, ◌∙◌, subst, arith, length}
+use Rattle.std.proofs.Common.{◌≡◌, ℕ, Bool, false, not, List, refl, ap, sym, ◌∙◌, subst, arith}
 use Rattle.std.specs.Prelude.{◌&&◌}
 use Rattle.lazy_search.specs.Entries.{Expands}
-use Rattle.lazy_search.specs.Visits.{Grows, KeepsVisit}
+use Rattle.lazy_search.specs.Visits.{Grows}
 use Rattle.lazy_search.proofs.Keeping.{on_ok, numbered_row, keeps_visit, and-false, opened}
 use Rattle.lazy_search.proofs.machine.Machine.keep_visit.Goals as goal
 use Rattle.lazy_search.proofs.machine.Machine.keep_visit.Goals.{then-self-via-then-self, then-self-via-else-self+then-arrival}
@@ -35,21 +35,3 @@ overflow_cast-row c = record { fits = omega arith }
 
 pub put_row-requires : goal.put_row-requires
 put_row-requires c = omega (arith, c.requires.id, c.args.self.now.rows.ok.0)
-
-pub expand-requires-clause-lists : goal.expand-requires-clause-lists
-expand-requires-clause-lists c = c.requires.lists
-
-pub expand-requires-clause-guides : goal.expand-requires-clause-guides
-expand-requires-clause-guides c = c.requires.guides
-
-pub expand-requires-clause-weight : goal.expand-requires-clause-weight
-expand-requires-clause-weight c = c.requires.weight
-
-pub expand-requires-clause-g : goal.expand-requires-clause-g
-expand-requires-clause-g c = c.requires.g
-
-pub expand-requires-clause-real : goal.expand-requires-clause-real
-expand-requires-clause-real c = c.requires.real
-
-pub expand-requires-clause-counters : goal.expand-requires-clause-counters
-expand-requires-clause-counters c = c.requires.counters

@@ -1,40 +1,23 @@
-use Rattle.std.proofs.Common.{◌≡◌, ◌<◌, ◌≤◌, ℕ, true, false, List, [], ◌∷◌, ◌++◌, refl, ap, sym, ◌∙◌, subst, arith, length, IfOk}
+use Rattle.std.proofs.Common.{true, false, List, [], ◌∷◌, ◌++◌, refl, ap, sym, ◌∙◌, subst, arith, length, IfOk}
 use Rattle.search_log.specs.declared.turns.Pop.{Pop}
 use Rattle.search_log.specs.Logs.{Content}
 use Rattle.search_log.specs.Clocks.{is_final}
 use Rattle.search_log.specs.Places.{past_of}
 use Rattle.lazy_search.specs.declared.machine.Machine.{Machine}
-use Rattle.lazy_search.specs.declared.machine.Decision.{Decision}
-use Rattle.lazy_search.specs.declared.machine.Turned.{Turned}
 use Rattle.lazy_search.specs.Outcomes.{PopsMore}
 use Rattle.lazy_search.specs.Machines.{phase_of, past_in, Reaches, Arrives, ArrivesAt}
-use Rattle.lazy_search.proofs.Taking.{Stays, rests_told, on_told, guided_told, after_empty, after_known, after_full, pops_one, list_small}
+use Rattle.lazy_search.proofs.Taking.{rests_told, on_told, guided_told, after_empty, after_known, after_full, pops_one, list_small}
 use Rattle.lazy_search.proofs.machine.Machine.turn.Goals as goal
-
-pub reach-requires-clause-phase : goal.reach-requires-clause-phase
-reach-requires-clause-phase g c = c.requires.phase
 
 pub reach-requires-clause-rests : goal.reach-requires-clause-rests
 reach-requires-clause-rests g c =
     let phase = phase_of c.args.task.now c.args.setting.now c.args.shape in
     rests_told phase _ _ c.args.self.now c.requires.stands
 
-pub reach-requires-clause-allowed : goal.reach-requires-clause-allowed
-reach-requires-clause-allowed g c = c.requires.allowed
-
-pub decide-requires-clause-phase : goal.decide-requires-clause-phase
-decide-requires-clause-phase g c = c.requires.phase
-
 pub decide-requires-clause-reaches : goal.decide-requires-clause-reaches
 decide-requires-clause-reaches g c =
     let phase = phase_of c.args.task.now c.args.setting.now c.args.shape in
     subst (λ (l : Content). Reaches phase c.reach.new.self c.reach.new.self.states.registry.states (past_of phase l.visits l.pops) c.in-Some.reached) (sym c.in-Some.ensures.log) c.in-Some.ensures.reaches
-
-pub returns-in_default-clause-same_task : goal.returns-in_default-clause-same_task
-returns-in_default-clause-same_task g c = c.requires.same_task
-
-pub returns-in_default-clause-meaning : goal.returns-in_default-clause-meaning
-returns-in_default-clause-meaning g c parts states seen = (λ f. f, λ f. f)
 
 pub returns-in_default-clause-after : goal.returns-in_default-clause-after
 returns-in_default-clause-after g c =
@@ -48,12 +31,6 @@ pub push_pop-requires : goal.push_pop-requires
 push_pop-requires g c =
     let phase = phase_of c.args.task.now c.args.setting.now c.args.shape in
     list_small phase _ _ _ c.in-Some.reached c.pop_by-pop.result _ c.requires.phase c.in-Some.ensures.reaches c.pop_by-pop.ensures
-
-pub returns-in_ok-push_pop-in-Known-clause-same_task : goal.returns-in_ok-push_pop-in-Known-clause-same_task
-returns-in_ok-push_pop-in-Known-clause-same_task g c = c.requires.same_task
-
-pub returns-in_ok-push_pop-in-Known-clause-meaning : goal.returns-in_ok-push_pop-in-Known-clause-meaning
-returns-in_ok-push_pop-in-Known-clause-meaning g c parts states seen = (λ f. f, λ f. f)
 
 pub returns-in_ok-push_pop-in-Known-clause-after : goal.returns-in_ok-push_pop-in-Known-clause-after
 returns-in_ok-push_pop-in-Known-clause-after g c =
@@ -84,12 +61,6 @@ push_pop-requires-in-Full g c =
     let phase = phase_of c.args.task.now c.args.setting.now c.args.shape in
     list_small phase _ _ _ c.in-Some.reached c.pop_by-pop-in-Full.result _ c.requires.phase c.in-Some.ensures.reaches c.pop_by-pop-in-Full.ensures
 
-pub returns-in_ok-push_pop-in-Full-clause-same_task : goal.returns-in_ok-push_pop-in-Full-clause-same_task
-returns-in_ok-push_pop-in-Full-clause-same_task g c = c.requires.same_task
-
-pub returns-in_ok-push_pop-in-Full-clause-meaning : goal.returns-in_ok-push_pop-in-Full-clause-meaning
-returns-in_ok-push_pop-in-Full-clause-meaning g c parts states seen = (λ f. f, λ f. f)
-
 pub returns-in_ok-push_pop-in-Full-clause-after : goal.returns-in_ok-push_pop-in-Full-clause-after
 returns-in_ok-push_pop-in-Full-clause-after g c =
     let phase = phase_of c.args.task.now c.args.setting.now c.args.shape in
@@ -114,9 +85,6 @@ returns-in_ok-push_pop-in-Full-clause-pops g c =
     let log = c.in_ok-decide.ensures.log ∙ c.in-Some.ensures.log in
     pops_one _ _ _ c.pop_by-pop-in-Full.result _ (ap (λ (l : Content). l.pops) log) c.in_ok-push_pop-in-Full.ensures.pops (ap (λ (p : Pop). is_final p.result) c.pop_by-pop-in-Full.ensures)
 
-pub visit-requires-clause-phase : goal.visit-requires-clause-phase
-visit-requires-clause-phase g c = c.requires.phase
-
 pub visit-requires-clause-arrives : goal.visit-requires-clause-arrives
 visit-requires-clause-arrives g c =
     let phase = phase_of c.args.task.now c.args.setting.now c.args.shape in
@@ -135,29 +103,14 @@ visit-requires-clause-goes_on g c =
     let phase = phase_of c.args.task.now c.args.setting.now c.args.shape in
     on_told phase _ _ c.args.self.now c.decide.new.self c.requires.stands (c.in_ok-decide.ensures.log ∙ c.in-Some.ensures.log)
 
-pub visit-requires-clause-same_task : goal.visit-requires-clause-same_task
-visit-requires-clause-same_task g c = c.requires.same_task
-
 pub visit-requires-clause-guided : goal.visit-requires-clause-guided
 visit-requires-clause-guided g c =
     let phase = phase_of c.args.task.now c.args.setting.now c.args.shape in
     guided_told phase _ _ c.args.self.now c.decide.new.self c.requires.stands (c.in_ok-decide.ensures.log ∙ c.in-Some.ensures.log)
 
-pub returns-in-New-clause-same_task : goal.returns-in-New-clause-same_task
-returns-in-New-clause-same_task g c = c.visit.ensures.same_task
-
-pub returns-in-New-clause-meaning : goal.returns-in-New-clause-meaning
-returns-in-New-clause-meaning g c parts states seen = c.visit.ensures.meaning parts states seen
-
-pub returns-in-New-clause-after : goal.returns-in-New-clause-after
-returns-in-New-clause-after g c = c.visit.ensures.after
-
 pub returns-in-New-clause-pops : goal.returns-in-New-clause-pops
 returns-in-New-clause-pops g c =
     subst (λ (ps : List Pop). IfOk c.visit.result (PopsMore ps c.visit.new.self.log.pops)) (ap (λ (l : Content). l.pops) (c.in_ok-decide.ensures.log ∙ c.in-Some.ensures.log)) c.visit.ensures.pops
-
-pub visit-requires-in-Again-clause-phase : goal.visit-requires-in-Again-clause-phase
-visit-requires-in-Again-clause-phase g c = c.requires.phase
 
 pub visit-requires-in-Again-clause-arrives : goal.visit-requires-in-Again-clause-arrives
 visit-requires-in-Again-clause-arrives g c =
@@ -177,22 +130,10 @@ visit-requires-in-Again-clause-goes_on g c =
     let phase = phase_of c.args.task.now c.args.setting.now c.args.shape in
     on_told phase _ _ c.args.self.now c.decide.new.self c.requires.stands (c.in_ok-decide.ensures.log ∙ c.in-Some.ensures.log)
 
-pub visit-requires-in-Again-clause-same_task : goal.visit-requires-in-Again-clause-same_task
-visit-requires-in-Again-clause-same_task g c = c.requires.same_task
-
 pub visit-requires-in-Again-clause-guided : goal.visit-requires-in-Again-clause-guided
 visit-requires-in-Again-clause-guided g c =
     let phase = phase_of c.args.task.now c.args.setting.now c.args.shape in
     guided_told phase _ _ c.args.self.now c.decide.new.self c.requires.stands (c.in_ok-decide.ensures.log ∙ c.in-Some.ensures.log)
-
-pub returns-in-Again-clause-same_task : goal.returns-in-Again-clause-same_task
-returns-in-Again-clause-same_task g c = c.visit-in-Again.ensures.same_task
-
-pub returns-in-Again-clause-meaning : goal.returns-in-Again-clause-meaning
-returns-in-Again-clause-meaning g c parts states seen = c.visit-in-Again.ensures.meaning parts states seen
-
-pub returns-in-Again-clause-after : goal.returns-in-Again-clause-after
-returns-in-Again-clause-after g c = c.visit-in-Again.ensures.after
 
 pub returns-in-Again-clause-pops : goal.returns-in-Again-clause-pops
 returns-in-Again-clause-pops g c =

@@ -1,4 +1,4 @@
-use Rattle.std.proofs.Common.{◌≡◌, ◌≢◌, ◌<◌, ◌≤◌, ◌+◌, ◌^◌, false, ℕ, Bool, true, List, [], ◌∷◌, ◌++◌, Option, Some, refl, ap, sym, ◌∙◌, subst, arith, length}
+use Rattle.std.proofs.Common.{◌≡◌, ◌<◌, ◌≤◌, false, ℕ, Bool, true, List, [], ◌∷◌, ◌++◌, Option, refl, ap, sym, ◌∙◌, subst, arith, length}
 use Rattle.std.specs.Prelude.{Vec, filter, not, ◌&&◌, IfSome}
 use Rattle.std.proofs.lemmas.List.{length-append}
 use Rattle.open_lists.specs.declared.entry.Popped.{Popped}
@@ -13,11 +13,9 @@ use Rattle.sas_task.specs.States.{IsState}
 use Rattle.relaxed_task.specs.Reached.{IsDead}
 use Rattle.guide.specs.Operators.{applicable_operators, is_among}
 use Rattle.search_log.specs.declared.turns.Pop.{Pop}
-use Rattle.search_log.specs.Places.{latest}
 use Rattle.search_log.specs.TableLaws.{id_within}
 use Rattle.lazy_search.specs.declared.states.States.{States}
 use Rattle.lazy_search.specs.declared.machine.Machine.{Machine}
-use Rattle.lazy_search.specs.declared.machine.Turned.{Turned}
 use Rattle.lazy_search.specs.States.{AreFor}
 use Rattle.lazy_search.specs.Outcomes.{pop_by, outcome_of, turned_by, PopsMore}
 use Rattle.lazy_search.specs.Visits.{row_for, Grows}
@@ -80,12 +78,6 @@ returns-clause-after g c =
       ends = turn_ends phase m past r to id again seen.dead at_goal (visit_of r id seen) c.requires.goes_on V refl (own ∙ ap (is_goal parts) V.next);
     })
 
-pub find_applicable-requires : goal.find_applicable-requires
-find_applicable-requires g c = c.requires.arrives.reaches.kept.ready
-
-pub visit-requires-clause-same_task : goal.visit-requires-clause-same_task
-visit-requires-clause-same_task g c = c.requires.same_task
-
 pub visit-requires-clause-state : goal.visit-requires-clause-state
 visit-requires-clause-state g c =
     let m = c.args.self.now in
@@ -101,12 +93,6 @@ visit-requires-clause-applicable g c =
     c.deref-2.ensures.value ∙ c.find_applicable.ensures.applicable
     ∙ ap (applicable_operators c.args.task.now) (sym (c.deref.ensures.value ∙ ap (λ (v : Vec ℕ Global). v.items) c.find_applicable.ensures.next))
 
-pub is_goal-is_goal-requires : goal.is_goal-is_goal-requires
-is_goal-is_goal-requires g c = c.find_applicable.ensures.ready
-
-pub keep_visit-requires-clause-guides : goal.keep_visit-requires-clause-guides
-keep_visit-requires-clause-guides g c = c.requires.phase.few_guides
-
 pub keep_visit-requires-clause-weight : goal.keep_visit-requires-clause-weight
 keep_visit-requires-clause-weight g c x is = (subst (λ (o : Option ℕ). IfSome o (λ w. (0 < w) × (w ≤ 1000))) is c.requires.phase.setting.weight).1
 
@@ -116,12 +102,6 @@ keep_visit-requires-clause-id g c =
     let phase = phase_of c.args.task.now c.args.setting.now c.args.shape in
     let A = c.requires.arrives in
     omega (arith, A.visits.id_is, id_within (past_in phase m).nodes (place_there phase (past_in phase m) c.args.reached.popped.entry A.reaches.goes).state, rows_count phase m A.words (past_in phase m) A.reaches.kept)
-
-pub keep_visit-requires-clause-g : goal.keep_visit-requires-clause-g
-keep_visit-requires-clause-g g c = c.requires.arrives.reaches.small.0
-
-pub keep_visit-requires-clause-real : goal.keep_visit-requires-clause-real
-keep_visit-requires-clause-real g c = c.requires.arrives.reaches.small.1
 
 pub keep_visit-requires-clause-lists : goal.keep_visit-requires-clause-lists
 keep_visit-requires-clause-lists g c = c.requires.arrives.reaches.pops.shape.count ∙ c.requires.arrives.reaches.stood.count
@@ -146,12 +126,6 @@ pub push_pop-requires : goal.push_pop-requires
 push_pop-requires g c =
     let phase = phase_of c.args.task.now c.args.setting.now c.args.shape in
     list_small phase _ _ _ c.args.reached c.pop_by.result _ c.requires.phase c.requires.arrives.reaches c.pop_by.ensures
-
-pub returns-clause-same_task : goal.returns-clause-same_task
-returns-clause-same_task g c = c.in_ok-visit.ensures.same_task
-
-pub returns-clause-meaning : goal.returns-clause-meaning
-returns-clause-meaning g c parts states seen = c.in_ok-visit.ensures.fits_stay parts states seen
 
 pops_made : (old new : List Pop) (popped : Popped) (again dead goal : Bool) → new ≡ old ++ pop_by popped (outcome_of again dead goal) ∷ [] → PopsMore old new (turned_by (outcome_of again dead goal))
 pops_made old new popped again true goal is = record { pop = pop_by popped Dead; is = is; ends = refl }
