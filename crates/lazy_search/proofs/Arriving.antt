@@ -1,17 +1,15 @@
 -- What a decision says of the state that an entry leads to.
-use Rattle.std.proofs.Common.{◌≡◌, ℕ, ◌+◌, ◌<◌, Bool, true, false, not, List, [], ◌∷◌, ◌++◌, map, length, slice_get, get_or, Option, Some, None, refl, ap, sym, ◌∙◌, subst, arith}
+use Rattle.std.proofs.Common.{◌≡◌, ℕ, ◌<◌, Bool, true, false, not, List, map, length, get_or, None, refl, ap, sym, ◌∙◌, subst, arith}
 use Rattle.std.specs.Prelude.{◌&&◌, nat_lt, Vec}
 use Rattle.std.specs.declared.alloc.Global.{Global}
 use Rattle.std.proofs.lemmas.Option.{slice_get_within}
-use Rattle.sas_task.specs.States.{IsState, step}
 use Rattle.packed_state.specs.Packing.{Places, packed}
 use Rattle.state_registry.specs.Registries.{Visited as Visits}
 use Rattle.state_registry.specs.Interning.{Interns}
 use Rattle.state_registry.specs.declared.interned.Interned.{Interned}
 use Rattle.state_registry.specs.declared.interned.Interned.TheVariants as found
 use Rattle.search_log.specs.Phases.{Phase, IsPhase, is_below}
-use Rattle.search_log.specs.Places.{Place, Node, Past, latest}
-use Rattle.search_log.specs.Sound.{Sound}
+use Rattle.search_log.specs.Places.{Past, latest}
 use Rattle.search_log.specs.TurnLaws.{result_over}
 use Rattle.lazy_search.specs.declared.rows.Row.{Row}
 use Rattle.lazy_search.specs.declared.states.States.{States}
@@ -19,9 +17,9 @@ use Rattle.lazy_search.specs.declared.machine.Machine.{Machine}
 use Rattle.lazy_search.specs.declared.machine.Reached.{Reached}
 use Rattle.lazy_search.specs.declared.machine.Decision.TheVariants.{Known, Full, New, Again}
 use Rattle.lazy_search.specs.States.{AreFor}
-use Rattle.lazy_search.specs.Machines.{packed_at, Keeps, GoesFrom, place_there, Reaches, Arrives}
+use Rattle.lazy_search.specs.Machines.{packed_at, place_there, Reaches, Arrives}
 use Rattle.lazy_search.proofs.Reaching.{sound_of}
-use Rattle.lazy_search.proofs.Deciding.{IsThere, to_state, known_there, words_count, rows_count, visits_new, finds_full, stays_known, visits_again}
+use Rattle.lazy_search.proofs.Deciding.{IsThere, to_state, known_there, rows_count, visits_new, finds_full, stays_known, visits_again}
 
 -- the machine with other states
 abbrev pub with_states : Machine → States → Machine

@@ -1,8 +1,11 @@
 -- The machine that has visited the initial state.
-use Rattle.std.proofs.Common.{◌≡◌, ◌≢◌, ℕ, zero, suc, ◌+◌, ◌*◌, ◌<◌, ◌≤◌, ◌^◌, Bool, true, false, not, List, [], ◌∷◌, ◌++◌, map, length, slice_get, slice_index, Option, Some, None, refl, ap, sym, ◌∙◌, subst, arith, inl, inr, pos}
-use Rattle.std.specs.Prelude.{◌&&◌, if◌then◌else◌, ◌-ℤ◌, ℤ, nat_lt}
+use Rattle.std.proofs.Common.{◌≡◌, ◌≢◌, ℕ, zero, suc, ◌-◌, ◌*◌, ◌<◌, ◌≤◌, ◌^◌, Bool, true, false, not, List, [], ◌∷◌, ◌++◌, map, length, slice_get, slice_index, Option, Some, None, refl, ap, sym, ◌∙◌, subst, arith, pos}
+use Rattle.std.specs.Prelude.{◌&&◌, if◌then◌else◌, ◌-ℤ◌, negsuc, ◌+ℤ◌, ◌≤ℤ◌, nat_lt}
+use Rattle.std.specs.List.{range_with_len}
 use Rattle.std.proofs.lemmas.Int.{ints}
 use Rattle.std.proofs.lemmas.Bool.{lt-ltb, or_from}
+use Rattle.std.proofs.lemmas.List.FromFn.{get_or-map-range_with_len}
+use Rattle.std.proofs.Common.{get_or}
 use Rattle.sas_task.specs.declared.contents.Parts.{Parts}
 use Rattle.sas_task.specs.Runs.{start_of, is_goal}
 use Rattle.packed_state.specs.Packing.{packed}
@@ -11,7 +14,7 @@ use Rattle.state_registry.specs.declared.interned.Interned.{Interned}
 use Rattle.state_registry.specs.declared.interned.Interned.TheVariants.{New, Known, Full}
 use Rattle.state_registry.specs.Interning.{Interns}
 use Rattle.open_lists.specs.declared.lists.OpenLists.{OpenLists}
-use Rattle.open_lists.specs.Lists.{Holds, counter as counter_now}
+use Rattle.open_lists.specs.Lists.{is_preferred, is_set, boost_of, counter as counter_now}
 use Rattle.guide.specs.declared.seen.Seen.{Seen}
 use Rattle.relaxed_task.specs.Reached.{IsDead}
 use Rattle.search_log.specs.declared.setting.Setting.{Setting}
@@ -20,10 +23,9 @@ use Rattle.search_log.specs.Logs.{Visit, Content}
 use Rattle.std.specs.Prelude.{Vec}
 use Rattle.std.specs.declared.alloc.Global.{Global}
 use Rattle.search_log.specs.Phases.{Phase, IsPhase, is_for_preferred}
-use Rattle.search_log.specs.Places.{Place, Node, Past, latest, start_place, start_past, node_at, is_goal_node}
+use Rattle.search_log.specs.Places.{Node, start_place, start_past}
 use Rattle.search_log.specs.Pending.{counter}
-use Rattle.search_log.specs.Lawful.{Logged, GoesOn, is_full}
-use Rattle.search_log.specs.Ends.{EndsInGoal}
+use Rattle.search_log.specs.Lawful.{Logged}
 use Rattle.search_log.specs.Elements.{one_at}
 use Rattle.search_log.specs.CounterLaws.{LeastStand, least_visited}
 use Rattle.search_log.specs.TurnLaws.{past_with}
@@ -34,13 +36,14 @@ use Rattle.lazy_search.specs.declared.paths.Came.{Came}
 use Rattle.lazy_search.specs.declared.shape.Shape.{Shape}
 use Rattle.lazy_search.specs.declared.turns.Arrival.{Arrival}
 use Rattle.lazy_search.specs.declared.machine.Machine.{Machine}
+use Rattle.lazy_search.specs.declared.machine.Turned.TheVariants.{Empty}
 use Rattle.lazy_search.specs.Rows.{row_put}
 use Rattle.lazy_search.specs.Shapes.{lists_by}
 use Rattle.lazy_search.specs.Outcomes.{outcome_of, turned_by}
 use Rattle.lazy_search.specs.Visits.{IsBlank, row_for}
-use Rattle.lazy_search.specs.Machines.{phase_of, row_of, packed_at, visit_at, TreeStands, ListsStand, Rests, IsGuided, TurnEnds}
+use Rattle.lazy_search.specs.Machines.{phase_of, row_of, TreeStands, ListsStand, Rests, IsGuided, TurnEnds}
 use Rattle.lazy_search.proofs.Growing.{Grown, lists_visited}
-use Rattle.lazy_search.proofs.Visiting.{Noted, noted_grows}
+use Rattle.lazy_search.proofs.Visiting.{Noted, noted_grows, counters_low}
 
 -- empty lists stand for what came before the first visit
 counter_zero : (phase : Phase) (k : ℕ) → counter phase (past_with [] []) k ≡ pos 0
@@ -58,6 +61,17 @@ lists_blank parts setting shape m b = record {
   holds = λ k l. b.empty k;
   counters = λ k l. b.counters k ∙ sym (counter_zero (phase_of parts setting shape) k);
 }
+
+-- no counter is too small for a boost
+pub counters_first : (parts : Parts) (setting : Setting) (shape : Shape) (m : Machine) → IsPhase (phase_of parts setting shape) → IsBlank parts setting shape m → (k : ℕ) → is_preferred m.lists k ≡ true → (negsuc (2 ^ 63 - 1) +ℤ pos (boost_of m.lists)) ≤ℤ counter_now m.lists k
+counters_first parts setting shape m is b = counters_low (phase_of parts setting shape) m.lists (past_with [] []) is (record { visits = omega arith; pops = omega arith }) (lists_blank parts setting shape m b)
+
+-- which lists are for preferred operators alone
+pub sorts_first : (f : ℕ → Bool) (n : ℕ) (sorts : List Bool) (k : ℕ) → sorts ≡ map f (range_with_len 0 n) → k < n → is_set sorts k ≡ f k
+sorts_first f n sorts k is l = ap (λ (xs : List Bool). get_or xs k false) is ∙ get_or-map-range_with_len f 0 n k k false l (omega arith)
+
+pub few_sorts : (shape : Shape) → shape.guides ≤ 3 → lists_by shape ≤ 6
+few_sorts shape few = elim (shape.preferring) as (λ b. (if b then 2 * shape.guides else shape.guides) ≤ 6) [ true ↦ omega arith | false ↦ omega arith ]
 
 least_blank : (phase : Phase) (least : List ℕ) → IsPhase phase → least ≡ 4294967296 ∷ 4294967296 ∷ 4294967296 ∷ [] → LeastStand phase least []
 least_blank phase least is are j e l small = ap (λ (ls : List ℕ). nat_lt e (slice_index ls j)) are ∙ lt-ltb e (slice_index (4294967296 ∷ 4294967296 ∷ 4294967296 ∷ []) j) (rw (at j (omega (arith, l, is.few_guides))) (omega (arith, small)))
@@ -152,3 +166,8 @@ first_ends phase seen false true dead_is goal_is =
     (first_node phase (visit_first seen), record { last = refl; goal = ap (λ (b : Bool). not b && is_goal phase.parts (start_of phase.parts)) (sym dead_is) ∙ sym goal_is })
 first_ends phase seen false false dead_is goal_is =
     record { no_goal = or_from _ _ (ap (λ (b : Bool). not b && is_goal phase.parts (start_of phase.parts)) (sym dead_is) ∙ sym goal_is) refl; not_full = refl }
+
+pub not_empty_first : (dead goal : Bool) → turned_by (outcome_of false dead goal) ≢ Empty
+not_empty_first true goal = λ e. cc
+not_empty_first false true = λ e. cc
+not_empty_first false false = λ e. cc

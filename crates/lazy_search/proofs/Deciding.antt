@@ -1,30 +1,26 @@
 -- What a look-up of the reached state says of the pop.
-use Rattle.std.proofs.Common.{◌≡◌, ◌≢◌, ℕ, zero, suc, ◌+◌, ◌<◌, ◌≤◌, Bool, true, false, not, List, [], ◌∷◌, ◌++◌, map, length, slice_get, get_or, Option, Some, None, refl, ap, sym, ◌∙◌, subst, arith, inl, inr}
+use Rattle.std.proofs.Common.{◌≡◌, ℕ, zero, suc, ◌<◌, Bool, true, false, not, List, [], ◌∷◌, ◌++◌, map, length, slice_get, get_or, Some, None, refl, ap, sym, ◌∙◌, arith}
 use Rattle.std.specs.Prelude.{option_map, slice_set, ◌&&◌, nat_lt, if◌then◌else◌}
-use Rattle.std.proofs.lemmas.List.{length-map, map-append, map-set}
+use Rattle.std.proofs.lemmas.List.{length-map, map-append}
 use Rattle.std.proofs.lemmas.Bool.{lt-ltb, le-ltb, false≢true, and_parts, not-true}
 use Rattle.std.proofs.lemmas.Option.{slice_get-map, slice_get_within, slice_get_past, get_or_from_slice_get}
-use Rattle.sas_task.specs.States.{IsState, step, is_applicable}
-use Rattle.sas_task.specs.Runs.{is_goal}
+use Rattle.sas_task.specs.States.{IsState, step}
 use Rattle.sas_task.specs.Laws.{step-state, is_some-step}
-use Rattle.packed_state.specs.Packing.{Places, packed, CanHold}
+use Rattle.packed_state.specs.Packing.{Places, packed}
 use Rattle.state_registry.specs.Interning.{IsAbsent}
-use Rattle.search_log.specs.declared.turns.PopResult.TheVariants.{Known, Full, Dead, Again, Goal, Visited}
-use Rattle.search_log.specs.Logs.{Visit}
+use Rattle.search_log.specs.declared.turns.PopResult.TheVariants.{Known, Full}
 use Rattle.search_log.specs.Phases.{Phase, IsPhase, is_below}
-use Rattle.search_log.specs.Places.{Place, Node, Past, latest, put_latest, id_of, place_by}
-use Rattle.search_log.specs.Lawful.{result_of, is_called_dead, is_reopened}
+use Rattle.search_log.specs.Places.{Place, Node, Past, latest, put_latest, id_of}
+use Rattle.search_log.specs.Lawful.{result_of, is_reopened}
 use Rattle.search_log.specs.Sound.{Sound}
 use Rattle.search_log.specs.Elements.{from-map}
 use Rattle.search_log.specs.SoundLaws.{id_known, id_new}
-use Rattle.search_log.specs.TurnLaws.{result_over, result_full, result_new, result_again, result_stays}
+use Rattle.search_log.specs.TurnLaws.{result_full, result_new, result_again, result_stays}
 use Rattle.lazy_search.specs.declared.rows.Row.{Row}
 use Rattle.lazy_search.specs.declared.machine.Machine.{Machine}
-use Rattle.lazy_search.specs.declared.states.States.{States}
 use Rattle.open_lists.specs.declared.entry.Entry.{Entry}
-use Rattle.lazy_search.specs.States.{AreFor, Opens}
-use Rattle.lazy_search.specs.Outcomes.{outcome_of}
-use Rattle.lazy_search.specs.Machines.{packed_at, row_of, Keeps, GoesFrom, place_there, IsVisited}
+use Rattle.lazy_search.specs.States.{Opens}
+use Rattle.lazy_search.specs.Machines.{packed_at, row_of, Keeps, GoesFrom, IsVisited}
 
 -- the state that an entry goes on from, and that it leads to
 pub from_state : (phase : Phase) (past : Past) (entry : Entry) → Sound phase past → (g : GoesFrom phase past entry) → IsState phase.parts.variables g.from.place.state

@@ -1,36 +1,32 @@
 -- What a visit adds to the lists, the least estimates, the tree and the rows.
-use Rattle.std.proofs.Common.{◌≡◌, ◌≢◌, ℕ, zero, suc, ◌+◌, ◌<◌, ◌≤◌, ◌^◌, min, Bool, true, false, not, cond, List, [], ◌∷◌, ◌++◌, map, length, slice_get, Some, refl, ap, sym, ◌∙◌, subst, arith, inl, inr}
+use Rattle.std.proofs.Common.{◌≡◌, ℕ, ◌+◌, ◌<◌, min, Bool, true, false, not, List, [], ◌∷◌, ◌++◌, map, length, slice_get, Some, refl, ap, sym, ◌∙◌, subst, arith, inl, inr}
 use Rattle.std.specs.Prelude.{filter, ◌&&◌, ◌||◌, if◌then◌else◌, slice_index, slice_set, pos, ℤ, ◌-ℤ◌}
-use Rattle.std.specs.List.{range_with_len, list_any}
 use Rattle.std.proofs.lemmas.List.{append-nil, length-append, length-map, map-append, map-set}
 use Rattle.std.proofs.lemmas.Bool.{cases_eq, cases_lt, lt-ltb, le-ltb}
 use Rattle.std.proofs.lemmas.Option.{slice_get_within}
 use Rattle.sas_task.specs.declared.contents.Parts.{Parts}
-use Rattle.sas_task.specs.Runs.{is_goal, cost_at}
+use Rattle.sas_task.specs.Runs.{cost_at}
 use Rattle.open_lists.specs.declared.lists.OpenLists.{OpenLists}
 use Rattle.open_lists.specs.Items.{Item}
 use Rattle.open_lists.specs.Lists.{Holds, SameShape, is_preferred, boost_of, counter as counter_now}
-use Rattle.guide.specs.declared.seen.Seen.{Seen}
 use Rattle.guide.specs.Operators.{applicable_operators, is_among}
 use Rattle.search_log.specs.declared.setting.Setting.{Setting}
 use Rattle.search_log.specs.declared.turns.Pop.{Pop}
-use Rattle.search_log.specs.Logs.{Visit}
 use Rattle.search_log.specs.Phases.{Phase, lists_of, is_for_preferred, is_below}
-use Rattle.search_log.specs.Places.{Place, Node, Past, latest, put_latest, node_at, is_expanded, is_progress, estimate}
-use Rattle.search_log.specs.Pending.{pending, counter, puts_of, is_put, item_for}
+use Rattle.search_log.specs.Places.{Node, put_latest, is_expanded, estimate}
+use Rattle.search_log.specs.Pending.{pending, puts_of, is_put, item_for}
 use Rattle.search_log.specs.Elements.{filter-same, slice_get-push_at, slice_get-push_other, slice_get-push_below}
 use Rattle.search_log.specs.PendingLaws.{pending-visited}
-use Rattle.search_log.specs.CounterLaws.{LeastStand, counter-visit, progress_by_least, least_visited}
+use Rattle.search_log.specs.CounterLaws.{counter-visit}
 use Rattle.search_log.specs.TurnLaws.{past_with}
 use Rattle.std.specs.List.{list_all}
 use Rattle.std.specs.Prelude.{nat_lt}
-use Rattle.lazy_search.specs.declared.rows.Row.{Row}
 use Rattle.lazy_search.specs.declared.shape.Shape.{Shape}
 use Rattle.lazy_search.specs.declared.paths.Came.{Came}
 use Rattle.lazy_search.specs.Rows.{row_put}
-use Rattle.lazy_search.specs.Shapes.{lists_by, is_preferred_by}
+use Rattle.lazy_search.specs.Shapes.{is_preferred_by}
 use Rattle.lazy_search.specs.Entries.{puts_in, operators_below, is_less, Expands}
-use Rattle.lazy_search.specs.Machines.{phase_of, row_of, ListsStand, TreeStands, ComesFrom}
+use Rattle.lazy_search.specs.Machines.{phase_of, row_of, ListsStand, TreeStands}
 
 and-true : (b : Bool) → (b && true) ≡ b
 and-true true = refl
@@ -64,17 +60,17 @@ puts_equal parts setting shape n operators k expanded are preferred =
     by_sort true sort =
         ap (λ (b : Bool). map (item_for (phase_of parts setting shape) k n) (if b then operators_below parts setting.bound n.place.real n.visit.seen.preferred else operators_below parts setting.bound n.place.real operators)) sort
         ∙ ap (map (item_for (phase_of parts setting shape) k n)) (
-          ap (filter (λ op. is_below setting.bound (n.place.real + cost_at parts op))) preferred
-          ∙ sym (filter-filter (λ op. is_below setting.bound (n.place.real + cost_at parts op)) (is_among n.visit.seen.preferred) operators)
-          ∙ filter-same (λ op. is_below setting.bound (n.place.real + cost_at parts op) && is_among n.visit.seen.preferred op) (is_put (phase_of parts setting shape) k n) operators
-            (λ op. ap (λ (b : Bool). is_below setting.bound (n.place.real + cost_at parts op) && (not b || is_among n.visit.seen.preferred op)) (sym sort))
+        ap (filter (λ op. is_below setting.bound (n.place.real + cost_at parts op))) preferred
+        ∙ sym (filter-filter (λ op. is_below setting.bound (n.place.real + cost_at parts op)) (is_among n.visit.seen.preferred) operators)
+        ∙ filter-same (λ op. is_below setting.bound (n.place.real + cost_at parts op) && is_among n.visit.seen.preferred op) (is_put (phase_of parts setting shape) k n) operators
+        (λ op. ap (λ (b : Bool). is_below setting.bound (n.place.real + cost_at parts op) && (not b || is_among n.visit.seen.preferred op)) (sym sort))
         )
     by_sort false sort =
         ap (λ (b : Bool). map (item_for (phase_of parts setting shape) k n) (if b then operators_below parts setting.bound n.place.real n.visit.seen.preferred else operators_below parts setting.bound n.place.real operators)) sort
         ∙ ap (map (item_for (phase_of parts setting shape) k n)) (
-          filter-same (λ op. is_below setting.bound (n.place.real + cost_at parts op)) (is_put (phase_of parts setting shape) k n) operators
-          (λ op. sym (and-true (is_below setting.bound (n.place.real + cost_at parts op)))
-            ∙ ap (λ (b : Bool). is_below setting.bound (n.place.real + cost_at parts op) && (not b || is_among n.visit.seen.preferred op)) (sym sort))
+        filter-same (λ op. is_below setting.bound (n.place.real + cost_at parts op)) (is_put (phase_of parts setting shape) k n) operators
+        (λ op. sym (and-true (is_below setting.bound (n.place.real + cost_at parts op)))
+        ∙ ap (λ (b : Bool). is_below setting.bound (n.place.real + cost_at parts op) && (not b || is_among n.visit.seen.preferred op)) (sym sort))
         )
 
 -- What a visit changes in the lists and in the least estimates.

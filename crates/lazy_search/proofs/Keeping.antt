@@ -1,15 +1,14 @@
 -- A visit that is kept.
-use Rattle.std.proofs.Common.{◌≡◌, ℕ, ◌<◌, ◌^◌, Bool, true, false, not, List, [], ◌∷◌, ◌++◌, length, refl, ap, sym, ◌∙◌, subst, arith, OnOk}
+use Rattle.std.proofs.Common.{◌≡◌, ℕ, ◌<◌, ◌^◌, Bool, true, false, not, [], ◌∷◌, ◌++◌, length, refl, ap, ◌∙◌, subst, arith, OnOk}
 use Rattle.std.specs.Prelude.{Result, Ok, Err, ◌&&◌, slice_index}
 use Rattle.sas_task.specs.declared.contents.Parts.{Parts}
 use Rattle.search_log.specs.declared.setting.Setting.{Setting}
-use Rattle.search_log.specs.Logs.{Visit}
 use Rattle.lazy_search.specs.declared.shape.Shape.{Shape}
 use Rattle.lazy_search.specs.declared.rows.Row.{Row}
 use Rattle.lazy_search.specs.declared.turns.Arrival.{Arrival}
 use Rattle.lazy_search.specs.declared.machine.Machine.{Machine}
 use Rattle.lazy_search.specs.Rows.{row_put}
-use Rattle.lazy_search.specs.Visits.{row_for, Grows, KeepsVisit}
+use Rattle.lazy_search.specs.Visits.{Grows, KeepsVisit}
 
 pub on_ok : {T E : Type 0} (P Q : Type 0) (r : Result T E) → (P → Q) → OnOk r P → OnOk r Q
 on_ok P Q (Ok x) f p = f p

@@ -1,5 +1,5 @@
 -- What is read of a machine when an entry is taken.
-use Rattle.std.proofs.Common.{◌≡◌, ℕ, ◌+◌, ◌-◌, ◌^◌, ◌<◌, ◌≤◌, Bool, true, List, [], ◌∷◌, map, length, slice_get, get_or, Option, Some, None, refl, ap, sym, ◌∙◌, subst, arith, inl, inr, pos, ◌<ℤ◌}
+use Rattle.std.proofs.Common.{◌≡◌, ℕ, ◌+◌, ◌-◌, ◌^◌, ◌<◌, true, List, [], ◌∷◌, length, slice_get, get_or, Option, Some, None, refl, ap, sym, ◌∙◌, subst, arith, inl, inr, pos, ◌<ℤ◌}
 use Rattle.std.specs.Prelude.{option_map}
 use Rattle.std.proofs.lemmas.Int.{ints}
 use Rattle.std.proofs.lemmas.Bool.Decides.{nat_tests}
@@ -12,12 +12,12 @@ use Rattle.open_lists.specs.declared.lists.OpenLists.{OpenLists}
 use Rattle.open_lists.specs.declared.entry.Popped.{Popped}
 use Rattle.open_lists.specs.declared.entry.Entry.{Entry}
 use Rattle.open_lists.specs.Items.{Item, popped_item, entries_under, has_key}
-use Rattle.open_lists.specs.Lists.{Pops, Holds, counter as counter_now, counter_in, queue}
+use Rattle.open_lists.specs.Lists.{Pops, Holds, counter as counter_now, counter_in}
 use Rattle.search_log.specs.declared.turns.Pop.{Pop}
 use Rattle.search_log.specs.Logs.{Visit}
 use Rattle.search_log.specs.Phases.{Phase, IsPhase, lists_of, adjusted_cost}
 use Rattle.search_log.specs.Places.{Place, Node, Past, latest, place_by}
-use Rattle.search_log.specs.Pending.{pending, counter}
+use Rattle.search_log.specs.Pending.{pending}
 use Rattle.search_log.specs.Lawful.{Logged}
 use Rattle.search_log.specs.Sound.{Sound, LeadsOn}
 use Rattle.search_log.specs.LogLaws.{Numbers, lawful_sound, lawful_numbers}
@@ -25,7 +25,6 @@ use Rattle.search_log.specs.NumberLaws.{counters_fit, costs_fit}
 use Rattle.search_log.specs.WaitingLaws.{waiting_leads}
 use Rattle.lazy_search.specs.declared.rows.Row.{Row}
 use Rattle.lazy_search.specs.declared.machine.Machine.{Machine}
-use Rattle.lazy_search.specs.declared.machine.Reached.{Reached}
 use Rattle.lazy_search.specs.Machines.{row_of, visit_at, ListsStand, Keeps, Rests, GoesFrom, Reaches}
 
 pub sound_of : (phase : Phase) (visits : List Visit) (pops : List Pop) (past : Past) → IsPhase phase → Logged phase visits pops past → Sound phase past

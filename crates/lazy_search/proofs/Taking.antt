@@ -1,7 +1,6 @@
 -- A pop by which a lawful log goes on.
-use Rattle.std.proofs.Common.{◌≡◌, ◌≢◌, ℕ, ◌+◌, ◌-◌, ◌<◌, ◌≤◌, Bool, true, false, List, [], ◌∷◌, ◌++◌, map, length, slice_get, Option, Some, None, refl, ap, sym, ◌∙◌, subst, arith, inl, inr, IfSome}
+use Rattle.std.proofs.Common.{◌≡◌, ℕ, ◌-◌, ◌^◌, ◌<◌, Bool, false, List, [], ◌∷◌, ◌++◌, map, length, slice_get, Option, Some, None, refl, ap, sym, ◌∙◌, subst, arith, inl, inr, IfSome}
 use Rattle.std.specs.Prelude.{option_map, option_and_then, ◌+ℤ◌, pos, ℤ}
-use Rattle.std.specs.List.{remove, list_any}
 use Rattle.std.proofs.lemmas.Int.{ints}
 use Rattle.std.proofs.lemmas.List.{length-append}
 use Rattle.std.proofs.lemmas.List.Folds.{list_any-append}
@@ -9,24 +8,26 @@ use Rattle.std.proofs.lemmas.Bool.{cases_eq, or_from}
 use Rattle.std.proofs.lemmas.Option.{slice_get_within}
 use Rattle.open_lists.specs.declared.lists.OpenLists.{OpenLists}
 use Rattle.open_lists.specs.declared.entry.Popped.{Popped}
-use Rattle.open_lists.specs.Items.{Item, popped_item}
-use Rattle.open_lists.specs.Lists.{Pops, Holds, TakesList, counter as counter_now}
+use Rattle.open_lists.specs.Items.{popped_item}
+use Rattle.open_lists.specs.Lists.{Pops, Holds, counter as counter_now}
 use Rattle.search_log.specs.declared.turns.Pop.{Pop}
 use Rattle.search_log.specs.declared.turns.PopResult.{PopResult}
-use Rattle.search_log.specs.declared.turns.PopResult.TheVariants.{Full}
+use Rattle.search_log.specs.declared.turns.PopResult.TheVariants.{Full, Known}
 use Rattle.guide.specs.declared.seen.Seen.{Seen}
-use Rattle.search_log.specs.Logs.{Visit}
+use Rattle.search_log.specs.Logs.{Visit, Content}
 use Rattle.search_log.specs.Phases.{Phase, IsPhase, lists_of}
-use Rattle.search_log.specs.Places.{Place, Node, Past, Turn, latest, id_of, place_after, place_by, reached, makes_visit, is_goal_node}
+use Rattle.search_log.specs.Places.{Node, Past, latest, id_of, place_after, place_by, past_of, reached, makes_visit}
 use Rattle.search_log.specs.Pending.{pending, counter}
 use Rattle.search_log.specs.Lawful.{Logged, IsNext, GoesOn, result_of, is_full}
 use Rattle.search_log.specs.Ends.{EndsFull}
+use Rattle.search_log.specs.Clocks.{is_final}
 use Rattle.search_log.specs.Sound.{Numbered}
 use Rattle.search_log.specs.Elements.{slice_get-push_at}
 use Rattle.search_log.specs.PendingLaws.{pending-popped, pending-other}
 use Rattle.search_log.specs.CounterLaws.{LeastStand, counter-pop_same, counter-pop_other}
-use Rattle.search_log.specs.TurnLaws.{bare, past_with, extend_bare}
+use Rattle.search_log.specs.TurnLaws.{past_with, extend_bare}
 use Rattle.search_log.specs.LogLaws.{logged_bare}
+use Rattle.search_log.specs.SpaceLaws.{few_lists}
 use Rattle.std.specs.Prelude.{Vec}
 use Rattle.std.specs.declared.alloc.Global.{Global}
 use Rattle.lazy_search.specs.declared.rows.Row.{Row}
@@ -35,8 +36,10 @@ use Rattle.lazy_search.specs.declared.states.States.{States}
 use Rattle.lazy_search.specs.States.{AreFor}
 use Rattle.lazy_search.specs.declared.machine.Machine.{Machine}
 use Rattle.lazy_search.specs.declared.machine.Reached.{Reached}
-use Rattle.lazy_search.specs.Outcomes.{pop_by}
-use Rattle.lazy_search.specs.Machines.{packed_at, TreeStands, ListsStand, Keeps, Rests, GoesFrom, place_there, Reaches, IsGuided}
+use Rattle.lazy_search.specs.Outcomes.{pop_by, PopsOne}
+use Rattle.lazy_search.specs.declared.machine.Decision.TheVariants as decision
+use Rattle.lazy_search.specs.declared.machine.Turned.TheVariants.{Empty, Done, AtFull}
+use Rattle.lazy_search.specs.Machines.{past_in, packed_at, TreeStands, ListsStand, Rests, GoesFrom, place_there, Reaches, Arrives, IsGuided, AfterTurn}
 use Rattle.lazy_search.proofs.Reaching.{sound_of}
 
 -- where a pop of an entry leads
@@ -80,6 +83,10 @@ next_turn phase m words past r outcome made R on allowed result id g =
       id = id;
       g = g;
     }
+
+-- the number of its list is small
+pub list_small : (phase : Phase) (m : Machine) (words : List (List ℕ)) (past : Past) (r : Reached) (pop : Pop) (outcome : PopResult) → IsPhase phase → Reaches phase m words past r → pop ≡ pop_by r.popped outcome → pop.list < 2 ^ 8
+list_small phase m words past r pop outcome is R same = omega (arith, ap (λ (p : Pop). p.list) same, R.pops.exists, R.stood.count, few_lists phase is)
 
 -- the lists after it
 pub lists_popped : (phase : Phase) (lists new : OpenLists) (nodes : List Node) (pops : List Pop) (popped : Popped) (outcome : PopResult) → Numbered 0 nodes → ListsStand phase lists (past_with nodes pops) → Pops lists popped new
@@ -163,3 +170,54 @@ ends_full past r =
     let pop = pop_by r.popped Full in
     let last : length (past.pops ++ pop ∷ []) - 1 ≡ length past.pops = omega (arith, length-append past.pops (pop ∷ [])) in
     record { pop = pop; last = ap (slice_get (past.pops ++ pop ∷ [])) last ∙ slice_get-push_at past.pops pop; full = refl }
+
+-- What is known between turns, of the past that the log tells.
+pub rests_told : (phase : Phase) (KeptFor : ℕ → List (List ℕ) → Type 0) (Fits : List (List ℕ) → Seen → Type 0) (m : Machine) → AfterTurn phase KeptFor Fits m Done → Rests phase m (past_in phase m)
+rests_told phase KeptFor Fits m a = subst (Rests phase m) (sym a.rests.kept.logged.past_is) a.rests
+
+pub past_told : (phase : Phase) (KeptFor : ℕ → List (List ℕ) → Type 0) (Fits : List (List ℕ) → Seen → Type 0) (m new : Machine) → (a : AfterTurn phase KeptFor Fits m Done) → new.log ≡ m.log → a.past ≡ past_in phase new
+past_told phase KeptFor Fits m new a same = sym (ap (λ (l : Content). past_of phase l.visits l.pops) same ∙ a.rests.kept.logged.past_is)
+
+pub on_told : (phase : Phase) (KeptFor : ℕ → List (List ℕ) → Type 0) (Fits : List (List ℕ) → Seen → Type 0) (m new : Machine) → AfterTurn phase KeptFor Fits m Done → new.log ≡ m.log → GoesOn phase (past_in phase new)
+on_told phase KeptFor Fits m new a same = subst (GoesOn phase) (past_told phase KeptFor Fits m new a same) a.ends
+
+pub guided_told : (phase : Phase) (KeptFor : ℕ → List (List ℕ) → Type 0) (Fits : List (List ℕ) → Seen → Type 0) (m new : Machine) → AfterTurn phase KeptFor Fits m Done → new.log ≡ m.log → IsGuided phase KeptFor Fits (past_in phase new)
+guided_told phase KeptFor Fits m new a same = subst (IsGuided phase KeptFor Fits) (past_told phase KeptFor Fits m new a same) a.guided
+
+-- no entry was left
+pub after_empty : (phase : Phase) (KeptFor : ℕ → List (List ℕ) → Type 0) (Fits : List (List ℕ) → Seen → Type 0) (m new : Machine) → IsPhase phase → AfterTurn phase KeptFor Fits m Done → new ≡ m → ((k : ℕ) → k < lists_of phase → pending phase (past_in phase m) k ≡ []) → AfterTurn phase KeptFor Fits new Empty
+after_empty phase KeptFor Fits m new is a same empty =
+    let rests = rests_told phase KeptFor Fits m a in
+    subst (λ (x : Machine). AfterTurn phase KeptFor Fits x Empty) (sym same)
+    (record {
+      past = past_in phase m;
+      rests = rests;
+      guided = guided_told phase KeptFor Fits m m a refl;
+      ends = record {
+        begun = (sound_of phase m.log.visits m.log.pops (past_in phase m) is rests.kept.logged).begun;
+        goes_on = on_told phase KeptFor Fits m m a refl;
+        empty = empty;
+      };
+    })
+
+-- an entry led to no visit
+pub after_known : (phase : Phase) (KeptFor : ℕ → List (List ℕ) → Type 0) (Fits : List (List ℕ) → Seen → Type 0) (m new : Machine) (past : Past) (r : Reached) → IsPhase phase → Arrives phase m past r decision.Known → GoesOn phase past → IsGuided phase KeptFor Fits past → length m.log.pops < phase.setting.most_pops
+    → Stays m new (pop_by r.popped Known) → AfterTurn phase KeptFor Fits new Done
+after_known phase KeptFor Fits m new past r is a on guided allowed st = record {
+  past = past_bare past r Known;
+  rests = rests_bare phase m new a.words past r Known is a.reaches on (omega (arith, allowed, ap length a.reaches.kept.pops)) a.decides.1 refl a.decides.0 st;
+  guided = guided_bare phase KeptFor Fits past r Known guided;
+  ends = goes_on_bare phase past r Known on refl;
+}
+
+pub after_full : (phase : Phase) (KeptFor : ℕ → List (List ℕ) → Type 0) (Fits : List (List ℕ) → Seen → Type 0) (m new : Machine) (past : Past) (r : Reached) → IsPhase phase → Arrives phase m past r decision.Full → GoesOn phase past → IsGuided phase KeptFor Fits past → length m.log.pops < phase.setting.most_pops
+    → Stays m new (pop_by r.popped Full) → AfterTurn phase KeptFor Fits new AtFull
+after_full phase KeptFor Fits m new past r is a on guided allowed st = record {
+  past = past_bare past r Full;
+  rests = rests_bare phase m new a.words past r Full is a.reaches on (omega (arith, allowed, ap length a.reaches.kept.pops)) a.decides.1 refl a.decides.0 st;
+  guided = guided_bare phase KeptFor Fits past r Full guided;
+  ends = ends_full past r;
+}
+
+pub pops_one : (old middle new : List Pop) (pop : Pop) (final : Bool) → middle ≡ old → new ≡ middle ++ pop ∷ [] → is_final pop.result ≡ final → PopsOne old new final
+pops_one old middle new pop final same is ends = record { pop = pop; is = is ∙ ap (λ (ps : List Pop). ps ++ pop ∷ []) same; ends = ends }

@@ -1,56 +1,47 @@
 -- What a machine stands for after a visit.
-use Rattle.std.proofs.Common.{◌≡◌, ◌≢◌, ℕ, ◌+◌, ◌-◌, ◌<◌, ◌≤◌, ◌^◌, Bool, true, false, not, List, [], ◌∷◌, ◌++◌, map, length, slice_get, slice_index, Option, Some, None, refl, ap, sym, ◌∙◌, subst, arith, inl, inr, pos, negsuc, ◌+ℤ◌, ◌≤ℤ◌}
-use Rattle.std.specs.Prelude.{Vec, filter, ◌&&◌, ◌||◌, if◌then◌else◌, ◌-ℤ◌, ℤ}
-use Rattle.std.specs.List.{list_any}
-use Rattle.std.specs.declared.alloc.Global.{Global}
+use Rattle.std.proofs.Common.{◌≡◌, ◌≢◌, ℕ, ◌-◌, ◌<◌, ◌≤◌, ◌^◌, Bool, true, false, not, List, [], ◌∷◌, ◌++◌, map, length, slice_get, slice_index, Some, refl, ap, sym, ◌∙◌, subst, arith, inl, inr, pos, negsuc, ◌+ℤ◌, ◌≤ℤ◌}
+use Rattle.std.specs.Prelude.{filter, ◌&&◌, ◌-ℤ◌, ℤ}
 use Rattle.std.proofs.lemmas.Int.{ints}
 use Rattle.std.proofs.lemmas.List.{length-append, map-append}
 use Rattle.std.proofs.lemmas.List.Folds.{list_any-append}
-use Rattle.std.proofs.lemmas.Bool.{cases_lt, or_from, and_parts}
+use Rattle.std.proofs.lemmas.Bool.{cases_lt, or_from}
 use Rattle.std.proofs.lemmas.Option.{slice_get_within, slice_get_past}
 use Rattle.sas_task.specs.declared.contents.Parts.{Parts}
 use Rattle.sas_task.specs.Runs.{is_goal}
 use Rattle.guide.specs.declared.seen.Seen.{Seen}
 use Rattle.guide.specs.Operators.{applicable_operators, is_among}
 use Rattle.open_lists.specs.declared.lists.OpenLists.{OpenLists}
-use Rattle.open_lists.specs.declared.entry.Popped.{Popped}
 use Rattle.open_lists.specs.Lists.{counter as counter_now, is_preferred, preferred_in, boost_of}
 use Rattle.search_log.specs.declared.setting.Setting.{Setting}
 use Rattle.search_log.specs.declared.turns.Pop.{Pop}
-use Rattle.search_log.specs.declared.turns.PopResult.{PopResult}
-use Rattle.search_log.specs.declared.turns.PopResult.TheVariants.{Known, Dead, Goal, Visited, Again, Full}
 use Rattle.search_log.specs.Logs.{Visit}
-use Rattle.search_log.specs.Phases.{Phase, IsPhase, lists_of, is_for_preferred}
-use Rattle.search_log.specs.Places.{Place, Node, Past, latest, put_latest, node_at, is_expanded, is_goal_node, estimate, makes_visit}
+use Rattle.search_log.specs.Phases.{Phase, IsPhase, lists_of}
+use Rattle.search_log.specs.Places.{Place, Node, Past, latest, node_at, is_expanded, is_goal_node, makes_visit}
 use Rattle.search_log.specs.Pending.{counter}
 use Rattle.search_log.specs.Lawful.{Logged, GoesOn, is_full, result_of}
-use Rattle.search_log.specs.Ends.{EndsInGoal}
 use Rattle.search_log.specs.Sound.{Sound}
 use Rattle.search_log.specs.Elements.{slice_get-push_at, push_cases, none-at}
-use Rattle.search_log.specs.TableLaws.{latest-push, put_latest-cases, id_within}
+use Rattle.search_log.specs.TableLaws.{latest-push, put_latest-cases}
 use Rattle.search_log.specs.CounterLaws.{LeastStand, progress_by_least, least_visited}
 use Rattle.search_log.specs.NumberLaws.{counters_fit}
-use Rattle.search_log.specs.TurnLaws.{with_visit, past_with, extend_made}
+use Rattle.search_log.specs.TurnLaws.{past_with, extend_made}
 use Rattle.search_log.specs.LogLaws.{Numbers, logged_made}
 use Rattle.search_log.specs.SoundLaws.{sound_pop}
 use Rattle.lazy_search.specs.declared.rows.Row.{Row}
-use Rattle.lazy_search.specs.declared.paths.Came.{Came}
 use Rattle.lazy_search.specs.declared.shape.Shape.{Shape}
-use Rattle.lazy_search.specs.declared.states.States.{States}
 use Rattle.lazy_search.specs.declared.turns.Arrival.{Arrival}
 use Rattle.lazy_search.specs.declared.machine.Machine.{Machine}
 use Rattle.lazy_search.specs.declared.machine.Reached.{Reached}
-use Rattle.lazy_search.specs.declared.machine.Turned.TheVariants.{Empty, Done, AtGoal, AtFull}
 use Rattle.lazy_search.specs.States.{AreFor}
 use Rattle.lazy_search.specs.Rows.{row_put}
-use Rattle.lazy_search.specs.Entries.{Expands, is_less}
+use Rattle.lazy_search.specs.Entries.{is_less}
 use Rattle.state_registry.specs.Registries.{Visited as Visits}
 use Rattle.relaxed_task.specs.Reached.{IsDead}
 use Rattle.open_lists.specs.declared.entry.Entry.{Entry}
 use Rattle.lazy_search.specs.Outcomes.{pop_by, outcome_of, turned_by}
-use Rattle.lazy_search.specs.Visits.{row_for, Grows, KeepsVisit}
-use Rattle.lazy_search.specs.Machines.{phase_of, past_in, row_of, packed_at, visit_at, TreeStands, ListsStand, Keeps, Rests, GoesFrom, place_there, Reaches, IsVisited, IsGuided, TurnEnds}
-use Rattle.lazy_search.proofs.Reaching.{sound_of, numbers_of}
+use Rattle.lazy_search.specs.Visits.{row_for, Grows}
+use Rattle.lazy_search.specs.Machines.{phase_of, row_of, packed_at, visit_at, TreeStands, ListsStand, Keeps, Rests, GoesFrom, place_there, Reaches, IsVisited, IsGuided, TurnEnds}
+use Rattle.lazy_search.proofs.Reaching.{sound_of}
 use Rattle.lazy_search.proofs.Growing.{Grown, grown_expanded, grown_still, lists_visited, tree_visited, rows_visited}
 use Rattle.lazy_search.proofs.Taking.{goes_reached, next_turn, lists_popped}
 

@@ -1,5 +1,5 @@
 -- The entries that a visit puts into the open lists.
-use Rattle.std.specs.Prelude.{◌≡◌, ℕ, ◌+◌, ◌<◌, ◌≤◌, min, Bool, ◌&&◌, nat_lt, if◌then◌else◌, List, ◌++◌, filter, slice_index, Option, ℤ, pos, ◌-ℤ◌}
+use Rattle.std.specs.Prelude.{◌≡◌, ℕ, ◌+◌, ◌<◌, ◌≤◌, min, Bool, ◌&&◌, nat_lt, if◌then◌else◌, List, ◌++◌, filter, slice_index, Option, pos, ◌-ℤ◌}
 use Rattle.std.specs.List.{list_any, range_with_len}
 use Rattle.sas_task.specs.declared.contents.Parts.{Parts}
 use Rattle.sas_task.specs.Runs.{cost_at}

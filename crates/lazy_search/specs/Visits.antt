@@ -1,11 +1,10 @@
 -- What is kept of a visit.
-use Rattle.std.specs.Prelude.{◌≡◌, ℕ, ◌<◌, ◌^◌, Bool, true, false, not, ◌&&◌, List, [], ◌∷◌, ◌++◌, length, slice_index, ℤ, pos}
+use Rattle.std.specs.Prelude.{◌≡◌, ℕ, ◌<◌, ◌^◌, Bool, true, false, not, ◌&&◌, List, [], ◌∷◌, ◌++◌, length, slice_index, pos}
 use Rattle.open_lists.specs.Lists.{list_count, is_preferred, boost_of, counter as counter_now, Holds}
 use Rattle.sas_task.specs.declared.contents.Parts.{Parts}
 use Rattle.open_lists.specs.declared.lists.OpenLists.{OpenLists}
 use Rattle.guide.specs.declared.seen.Seen.{Seen}
 use Rattle.search_log.specs.declared.setting.Setting.{Setting}
-use Rattle.search_log.specs.Logs.{Visit}
 use Rattle.lazy_search.specs.declared.shape.Shape.{Shape}
 use Rattle.lazy_search.specs.declared.rows.Row.{Row}
 use Rattle.lazy_search.specs.declared.turns.Arrival.{Arrival}

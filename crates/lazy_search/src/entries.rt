@@ -1,7 +1,6 @@
 // The entries that a visit puts into the open lists.
-ghost use Rattle.std.specs.Prelude.{◌≡◌, ◌<◌, ◌≤◌, ◌+◌, ◌^◌, ℕ, List, filter, nat_lt, true, min};
+ghost use Rattle.std.specs.Prelude.{◌≡◌, ◌<◌, ◌≤◌, ◌+◌, ◌^◌, ℕ, nat_lt, true, min};
 ghost use Rattle.std.specs.Prelude.{slice_index, OnOk, pos, negsuc, ◌+ℤ◌, ◌≤ℤ◌, ◌-◌};
-ghost use Rattle.std.specs.List.{list_any, range_with_len};
 ghost use Rattle.std.specs.Option.{ForSome};
 ghost use Rattle.sas_task.specs.Runs.{cost_at};
 ghost use Rattle.open_lists.specs.Lists.{list_count, is_preferred, counter, boost_of};

@@ -1,10 +1,11 @@
 // What becomes of the entries that are taken.
+ghost use Rattle.std.specs.Prelude.{◌≡◌};
+ghost use Rattle.lazy_search.specs.Outcomes.{pop_by as the_pop, outcome_of as the_outcome};
+ghost use Rattle.lazy_search.specs.Outcomes.{turned_by as the_turned};
+
 use crate::machine::Turned;
 use open_lists::Popped;
 use search_log::{Pop, PopResult};
-
-ghost use Rattle.std.specs.Prelude.{◌≡◌};
-ghost use Rattle.lazy_search.specs.Outcomes.{pop_by as the_pop, outcome_of as the_outcome, turned_by as the_turned};
 
 pub(crate) fn pop_by(popped: Popped, outcome: PopResult) -> Pop
     ensures { result ≡ the_pop popped outcome }

@@ -1,11 +1,11 @@
 // The states of a search: packed by number, and the two that a turn works on.
-ghost use Rattle.std.specs.Prelude.{◌≡◌, ◌<◌, ◌≤◌, ℕ, List, [], length, slice_get, Some, IsTrue};
+ghost use Rattle.std.specs.Prelude.{◌≡◌, ◌<◌, ◌≤◌, ℕ, List, [], length, slice_get, Some};
 ghost use Rattle.std.specs.Prelude.{IfOk, vec_capacity};
-ghost use Rattle.sas_task.specs.States.{IsState, step, is_applicable};
+ghost use Rattle.sas_task.specs.States.{IsState, step};
 ghost use Rattle.sas_task.specs.Runs.{start_of, is_goal as goal_holds};
 ghost use Rattle.packed_state.specs.Packing.{packed};
-ghost use Rattle.state_registry.specs.Interning.{Interns, IsAbsent};
-ghost use Rattle.succ_gen.specs.Trees.{applicable as the_applicable};
+ghost use Rattle.state_registry.specs.Interning.{Interns};
+ghost use Rattle.succ_gen.specs.Trees.{applicable as operators_in};
 ghost use Rattle.lazy_search.specs.States.{AreFor, Opens, IsKept};
 
 use lama_num::NoMemory;
@@ -125,8 +125,7 @@ impl States {
         ensures ready { AreFor self.new task.now }
         ensures kept { self.new.registry ≡ self.old.registry }
         ensures next { self.new.next ≡ self.old.next }
-        ensures applicable {
-            self.new.applicable.items ≡ the_applicable task.now self.old.next.items }
+        ensures applicable { self.new.applicable.items ≡ operators_in task.now self.old.next.items }
     {
         self.tree
             .applicable_into(task, &self.next, &mut self.applicable);

@@ -1,8 +1,6 @@
 // A turn of a search.
-#![tactic(none)]
-ghost use Rattle.std.specs.Prelude.{◌≡◌, ◌<◌, ◌≤◌, ◌+◌, ◌-◌, ◌^◌, ◌≢◌, ◌↔◌, ℕ, true, List, [], ◌++◌, ◌∷◌};
-ghost use Rattle.std.specs.Prelude.{length, pos, negsuc, ◌+ℤ◌, ◌≤ℤ◌, IfOk, OnOk, IfSome, IfNone, map};
-ghost use Rattle.std.specs.List.{range_with_len};
+ghost use Rattle.std.specs.Prelude.{◌≡◌, ◌<◌, ◌≤◌, ◌+◌, ◌-◌, ◌^◌, ◌≢◌, ◌↔◌, ℕ, true, List, []};
+ghost use Rattle.std.specs.Prelude.{length, pos, negsuc, ◌+ℤ◌, ◌≤ℤ◌, IfOk, OnOk, IfSome, IfNone};
 ghost use Rattle.std.specs.Option.{ForSome};
 
 use crate::entries::{Chosen, are_short, expand};
@@ -46,7 +44,6 @@ impl Machine {
     ghost use Rattle.lazy_search.specs.Visits.{KeepsVisit, IsBlank};
 
     /// Takes an entry, if there is one, and finds what it costs to go on by it.
-    #[tactic(auto)]
     fn reach(&mut self, task: &Task, setting: &Setting, shape: Shape) -> Option<Reached>
         requires phase { IsPhase (phase_of task.now setting.now shape) }
         requires rests { Rests (phase_of task.now setting.now shape) self.old
@@ -78,7 +75,6 @@ impl Machine {
     }
 
     /// Decides what to do with the state that an entry leads to.
-    #[tactic(auto)]
     fn decide(
         &mut self,
         task: &Task,

@@ -1,4 +1,4 @@
-use Rattle.std.proofs.Common.{◌≡◌, ℕ, ◌<◌, ◌≤◌, min, length}
+use Rattle.std.proofs.Common.{◌≡◌, ℕ, ◌<◌, ◌≤◌, min}
 use Rattle.std.specs.Prelude.{slice_index}
 use Rattle.lazy_search.specs.Entries.{is_less}
 use Rattle.lazy_search.proofs.entries.lower_all.Given as goal

@@ -1,6 +1,4 @@
-use Rattle.std.proofs.Common.{◌≡◌, ◌<◌, ℕ, List, true, false, refl, ap, sym, ◌∙◌, subst, arith}
-use Rattle.std.specs.Prelude.{not}
-use Rattle.std.proofs.lemmas.Bool.{not-true, not-false}
+use Rattle.std.proofs.Common.{sym, ◌∙◌, subst, arith}
 use Rattle.sas_task.specs.States.{IsState}
 use Rattle.packed_state.specs.Packing.{packed}
 use Rattle.state_registry.specs.Interning.{Interns}
@@ -41,7 +39,6 @@ intern-requires-clause-state c =
     let sound = sound_of phase m.log.visits m.log.pops past c.requires.phase R.kept.logged in
     let next = next_is phase m past c.args.reached.popped.entry c.args.reached.parent c.follow.new.self.next.items sound R.kept R.goes R.parent c.follow.ensures.next in
     subst (IsState c.args.task.now.variables) (sym next) (to_state phase past c.args.reached.popped.entry c.requires.phase sound R.goes)
-
 
 pub index-requires : goal.index-requires
 index-requires c =

@@ -1,7 +1,7 @@
-use Rattle.std.proofs.Common.{◌≡◌, ◌<◌, ◌^◌, ℕ, Bool, true, false, not, List, refl, ap, sym, ◌∙◌, subst, arith, length}
+use Rattle.std.proofs.Common.{◌≡◌, ℕ, Bool, false, not, List, refl, ap, sym, ◌∙◌, subst, arith}
 use Rattle.std.specs.Prelude.{◌&&◌}
 use Rattle.lazy_search.specs.Entries.{Expands}
-use Rattle.lazy_search.specs.Visits.{Grows, KeepsVisit}
+use Rattle.lazy_search.specs.Visits.{Grows}
 use Rattle.lazy_search.proofs.Keeping.{on_ok, numbered_row, keeps_visit, and-false, opened}
 use Rattle.lazy_search.proofs.machine.Machine.keep_visit.Goals as goal
 use Rattle.lazy_search.proofs.machine.Machine.keep_visit.Goals.{then-self-via-then-self, then-self-via-else-self+then-arrival}
@@ -29,3 +29,9 @@ returns c =
     (subst (λ (b : Bool). Grows c.args.task.now c.args.setting.now c.args.shape row m.seen m.states.applicable.items m.lists m.least b c.expand.new.lists c.expand.new.least) (sym (opened m.seen.dead a.is_goal c.if-self.false c.if-arrival.false))
     (subst (λ (ops : List ℕ). Expands c.args.task.now c.args.setting.now c.args.shape row m.seen ops m.lists m.least c.expand.new.lists c.expand.new.least) c.deref.ensures.value e)))
     c.expand.ensures
+
+pub overflow_cast-row : goal.overflow_cast-row
+overflow_cast-row c = record { fits = omega arith }
+
+pub put_row-requires : goal.put_row-requires
+put_row-requires c = omega (arith, c.requires.id, c.args.self.now.rows.ok.0)

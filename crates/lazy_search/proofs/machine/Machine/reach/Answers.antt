@@ -1,6 +1,4 @@
-use Rattle.std.proofs.Common.{◌≡◌, ◌<◌, ◌^◌, ℕ, List, refl, ap, sym, ◌∙◌, subst, arith, length}
-use Rattle.search_log.specs.Logs.{Visit}
-use Rattle.search_log.specs.Phases.{Phase, lists_of}
+use Rattle.std.proofs.Common.{ap, ◌∙◌, arith}
 use Rattle.search_log.specs.Pending.{pending}
 use Rattle.lazy_search.specs.declared.rows.Row.{Row}
 use Rattle.lazy_search.specs.Machines.{phase_of, past_in}

@@ -1,22 +1,27 @@
-use Rattle.std.proofs.Common.{◌≡◌, ◌≢◌, ◌<◌, ◌^◌, ℕ, Bool, true, List, [], ◌∷◌, ◌++◌, Some, refl, ap, sym, ◌∙◌, subst, arith, length}
-use Rattle.std.specs.Prelude.{Vec, filter, not, ◌&&◌}
+use Rattle.std.proofs.Common.{◌≡◌, ◌<◌, ◌≤◌, false, ℕ, Bool, true, List, [], ◌∷◌, ◌++◌, Option, refl, ap, sym, ◌∙◌, subst, arith, length}
+use Rattle.std.specs.Prelude.{Vec, filter, not, ◌&&◌, IfSome}
+use Rattle.std.proofs.lemmas.List.{length-append}
+use Rattle.open_lists.specs.declared.entry.Popped.{Popped}
+use Rattle.search_log.specs.declared.turns.PopResult.TheVariants.{Known, Dead, Goal, Visited, Again}
+use Rattle.search_log.specs.TurnLaws.{past_with}
+use Rattle.search_log.specs.LogLaws.{Numbers}
+use Rattle.lazy_search.proofs.Deciding.{to_state, rows_count}
+use Rattle.lazy_search.proofs.Taking.{lists_popped, list_small}
 use Rattle.std.specs.declared.alloc.Global.{Global}
 use Rattle.sas_task.specs.Runs.{is_goal}
 use Rattle.sas_task.specs.States.{IsState}
 use Rattle.relaxed_task.specs.Reached.{IsDead}
 use Rattle.guide.specs.Operators.{applicable_operators, is_among}
 use Rattle.search_log.specs.declared.turns.Pop.{Pop}
-use Rattle.search_log.specs.Places.{latest}
 use Rattle.search_log.specs.TableLaws.{id_within}
 use Rattle.lazy_search.specs.declared.states.States.{States}
 use Rattle.lazy_search.specs.declared.machine.Machine.{Machine}
-use Rattle.lazy_search.specs.declared.machine.Turned.{Turned}
 use Rattle.lazy_search.specs.States.{AreFor}
-use Rattle.lazy_search.specs.Outcomes.{pop_by, outcome_of, turned_by}
+use Rattle.lazy_search.specs.Outcomes.{pop_by, outcome_of, turned_by, PopsMore}
 use Rattle.lazy_search.specs.Visits.{row_for, Grows}
 use Rattle.lazy_search.specs.Machines.{phase_of, past_in, place_there, AfterTurn}
-use Rattle.lazy_search.proofs.Reaching.{sound_of}
-use Rattle.lazy_search.proofs.Visiting.{Noted, arrival_of, visit_of, pop_of, past_made, rests_visited, guided_visited, turn_ends}
+use Rattle.lazy_search.proofs.Reaching.{sound_of, numbers_of}
+use Rattle.lazy_search.proofs.Visiting.{Noted, arrival_of, visit_of, pop_of, past_made, rests_visited, guided_visited, turn_ends, counters_low}
 use Rattle.lazy_search.proofs.machine.Machine.visit.Goals as goal
 
 pub returns-clause-after : goal.returns-clause-after
@@ -72,3 +77,69 @@ returns-clause-after g c =
           (λ d. subst (IsDead parts) here (c.in_ok-visit.ensures.dead d));
       ends = turn_ends phase m past r to id again seen.dead at_goal (visit_of r id seen) c.requires.goes_on V refl (own ∙ ap (is_goal parts) V.next);
     })
+
+pub visit-requires-clause-state : goal.visit-requires-clause-state
+visit-requires-clause-state g c =
+    let m = c.args.self.now in
+    let phase = phase_of c.args.task.now c.args.setting.now c.args.shape in
+    let past = past_in phase m in
+    let R = c.requires.arrives.reaches in
+    let sound = sound_of phase m.log.visits m.log.pops past c.requires.phase R.kept.logged in
+    let here : c.deref.result.now ≡ R.goes.next = c.deref.ensures.value ∙ ap (λ (v : Vec ℕ Global). v.items) c.find_applicable.ensures.next ∙ c.requires.arrives.visits.next in
+    subst (IsState c.args.task.now.variables) (sym here) (to_state phase past c.args.reached.popped.entry c.requires.phase sound R.goes)
+
+pub visit-requires-clause-applicable : goal.visit-requires-clause-applicable
+visit-requires-clause-applicable g c =
+    c.deref-2.ensures.value ∙ c.find_applicable.ensures.applicable
+    ∙ ap (applicable_operators c.args.task.now) (sym (c.deref.ensures.value ∙ ap (λ (v : Vec ℕ Global). v.items) c.find_applicable.ensures.next))
+
+pub keep_visit-requires-clause-weight : goal.keep_visit-requires-clause-weight
+keep_visit-requires-clause-weight g c x is = (subst (λ (o : Option ℕ). IfSome o (λ w. (0 < w) × (w ≤ 1000))) is c.requires.phase.setting.weight).1
+
+pub keep_visit-requires-clause-id : goal.keep_visit-requires-clause-id
+keep_visit-requires-clause-id g c =
+    let m = c.args.self.now in
+    let phase = phase_of c.args.task.now c.args.setting.now c.args.shape in
+    let A = c.requires.arrives in
+    omega (arith, A.visits.id_is, id_within (past_in phase m).nodes (place_there phase (past_in phase m) c.args.reached.popped.entry A.reaches.goes).state, rows_count phase m A.words (past_in phase m) A.reaches.kept)
+
+pub keep_visit-requires-clause-lists : goal.keep_visit-requires-clause-lists
+keep_visit-requires-clause-lists g c = c.requires.arrives.reaches.pops.shape.count ∙ c.requires.arrives.reaches.stood.count
+
+pub keep_visit-requires-clause-counters : goal.keep_visit-requires-clause-counters
+keep_visit-requires-clause-counters g c =
+    let m = c.args.self.now in
+    let phase = phase_of c.args.task.now c.args.setting.now c.args.shape in
+    let past = past_in phase m in
+    let R = c.requires.arrives.reaches in
+    let r = c.args.reached in
+    let sound = sound_of phase m.log.visits m.log.pops past c.requires.phase R.kept.logged in
+    let n = numbers_of phase m.log.visits m.log.pops past R.kept.logged in
+    let p = pop_by r.popped Known in
+    let more : Numbers phase (past_with past.nodes (past.pops ++ p ∷ [])) = record {
+      visits = omega (arith, n.visits, length-append past.pops (p ∷ []));
+      pops = omega (arith, c.requires.allowed, ap length R.kept.pops, length-append past.pops (p ∷ []));
+    } in
+    counters_low phase m.lists (past_with past.nodes (past.pops ++ p ∷ [])) c.requires.phase more (lists_popped phase R.lists m.lists past.nodes past.pops r.popped Known sound.numbered R.stood R.pops)
+
+pub push_pop-requires : goal.push_pop-requires
+push_pop-requires g c =
+    let phase = phase_of c.args.task.now c.args.setting.now c.args.shape in
+    list_small phase _ _ _ c.args.reached c.pop_by.result _ c.requires.phase c.requires.arrives.reaches c.pop_by.ensures
+
+pops_made : (old new : List Pop) (popped : Popped) (again dead goal : Bool) → new ≡ old ++ pop_by popped (outcome_of again dead goal) ∷ [] → PopsMore old new (turned_by (outcome_of again dead goal))
+pops_made old new popped again true goal is = record { pop = pop_by popped Dead; is = is; ends = refl }
+pops_made old new popped true false goal is = record { pop = pop_by popped Again; is = is; ends = refl }
+pops_made old new popped false false true is = record { pop = pop_by popped Goal; is = is; ends = refl }
+pops_made old new popped false false false is = record { pop = pop_by popped Visited; is = is; ends = refl }
+
+pub returns-clause-pops : goal.returns-clause-pops
+returns-clause-pops g c =
+    let m = c.args.self.now in
+    let r = c.args.reached in
+    let seen = c.visit.new.out in
+    let goal_is = c.is_goal-is_goal.result in
+    let more : c.push_pop.new.self.pops ≡ m.log.pops ++ pop_by r.popped (outcome_of c.args.again seen.dead goal_is) ∷ [] =
+    c.in_ok-push_pop.ensures.pops ∙ ap (λ (ps : List Pop). ps ++ c.pop_by.result ∷ []) c.in_ok-keep_visit.ensures.pops ∙ ap (λ (p : Pop). m.log.pops ++ p ∷ []) (c.pop_by.ensures ∙ ap (pop_by r.popped) c.outcome_of-outcome.ensures) in
+    subst (PopsMore m.log.pops c.push_pop.new.self.pops) (sym (c.turned_by.ensures ∙ ap turned_by c.outcome_of-outcome.ensures))
+    (pops_made m.log.pops c.push_pop.new.self.pops r.popped c.args.again seen.dead goal_is more)
