@@ -1,5 +1,8 @@
 // What becomes of searches, in plain numbers, by functions that promise nothing, so that the proof of
 // a test has nothing to carry.
+ghost use Rattle.std.specs.Prelude.{IsTrue};
+ghost use Rattle.search_log.specs.Phases.{IsSetting};
+
 use crate::ff_guide::FfGuide;
 use host_mem::MemClock;
 use lazy_search::{SearchEnd, search};
@@ -56,7 +59,9 @@ pub fn greedy() -> Setting {
 }
 
 /// What is asked may be.
-fn may_be(setting: &Setting) -> bool {
+fn may_be(setting: &Setting) -> bool
+    ensures { IsTrue result → IsSetting setting.now }
+{
     setting.weight.is_none()
         && setting.boost <= 1_000_000
         && setting.bound != Some(0)
