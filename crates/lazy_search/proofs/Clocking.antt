@@ -101,15 +101,14 @@ asks_next phase pops new before mid after hit a one all multiple asks = by_stop 
     by_stop (Some stop) is s = record {
       answered = λ told e.
           let q = s.1 told e in
-          let p = a.answered q.0 q.1 in
-          (
+          let p = a.answered q.0 q.1 in (
             p.0,
             p.1 ++ s.0 ∷ [],
             p.2,
             q.2 ∙ ap (λ (xs : List ℕ). xs ++ s.0 ∷ []) p.3 ∙ append_assoc p.0 p.1 (s.0 ∷ []),
             subst (λ (h : Option LimitHit). AreAnswers phase new (moment_in h) (p.1 ++ s.0 ∷ [])) (sym s.2)
-            (subst (λ (ps : List Pop). AreAnswers phase ps (moment_in (if is_late stop s.0 then Some (Time stop.start stop.limit s.0) else None)) (p.1 ++ s.0 ∷ [])) (sym one.is)
-            (by_late stop s.0 p.1 (is_late stop s.0) is p.4 refl)),
+                (subst (λ (ps : List Pop). AreAnswers phase ps (moment_in (if is_late stop s.0 then Some (Time stop.start stop.limit s.0) else None)) (p.1 ++ s.0 ∷ [])) (sym one.is)
+                (by_late stop s.0 p.1 (is_late stop s.0) is p.4 refl)),
           );
     }
 

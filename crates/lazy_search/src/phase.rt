@@ -1,5 +1,4 @@
 // The search.
-#![tactic(none)]
 ghost use Rattle.std.specs.Prelude.{◌≡◌, ◌≢◌, ◌≤◌, ◌<◌, ◌%◌, ◌↔◌, ℕ, true, List, [], length};
 ghost use Rattle.std.specs.Prelude.{Option, None, IfOk, OnOk};
 ghost use Rattle.sas_task.specs.declared.contents.Parts.{Parts};
@@ -37,7 +36,6 @@ pub(crate) enum Halt {
 }
 
 /// Asks the clock where a stop is set, and answers that time is over where it is.
-#[tactic(auto)]
 fn ask<C: Clock>(setting: &Setting, clock: &mut C) -> Option<LimitHit>
     ensures asks { Asks setting.now.stop (C.answers clock.old) (C.answers clock.new) result }
     ensures moment { IsBetween (C.last clock.old) (C.last clock.new) (moment_in result) }
@@ -57,7 +55,6 @@ fn ask<C: Clock>(setting: &Setting, clock: &mut C) -> Option<LimitHit>
 }
 
 /// Asks the clock after each 256th pop.
-#[tactic(auto)]
 fn ask_after<C: Clock>(setting: &Setting, clock: &mut C, pops: u64) -> Option<LimitHit>
     ensures between { pops % 256 ≢ 0 → result ≡ None }
     ensures unasked { pops % 256 ≢ 0 → C.answers clock.new ≡ C.answers clock.old }
@@ -74,7 +71,6 @@ fn ask_after<C: Clock>(setting: &Setting, clock: &mut C, pops: u64) -> Option<Li
 }
 
 /// Makes turns until the search halts.
-#[tactic(auto)]
 fn run<G: Guide, C: Clock>(
     alloc: Global,
     task: &Task,
@@ -120,7 +116,6 @@ fn run<G: Guide, C: Clock>(
 }
 
 /// Visits the initial state, and makes turns until the search halts.
-#[tactic(auto)]
 fn go<G: Guide, C: Clock>(
     alloc: Global,
     task: &Task,
@@ -154,7 +149,6 @@ fn go<G: Guide, C: Clock>(
 }
 
 /// The states of a machine, with their costs.
-#[tactic(auto)]
 fn space_of(
     alloc: Global,
     task: &Task,
@@ -179,7 +173,6 @@ fn space_of(
 }
 
 /// The plan of a machine that has visited a goal, and what it really costs.
-#[tactic(auto)]
 fn plan_of(
     alloc: Global,
     task: &Task,
@@ -215,7 +208,6 @@ pub(crate) enum Found {
 }
 
 /// What a machine has found for which a search halts.
-#[tactic(auto)]
 fn found_by(
     alloc: Global,
     task: &Task,
@@ -245,7 +237,6 @@ fn found_by(
 }
 
 /// The answer, with the log of the search.
-#[tactic(auto)]
 fn answer(setting: &Setting, found: Found, log: Log) -> SearchEnd
     ensures { result ≡ end_with setting.now found log }
 {
@@ -260,7 +251,6 @@ fn answer(setting: &Setting, found: Found, log: Log) -> SearchEnd
 }
 
 /// The answer of a machine that halts.
-#[tactic(auto)]
 fn end_of(
     alloc: Global,
     task: &Task,
@@ -284,7 +274,6 @@ fn end_of(
 }
 
 /// Which lists there are by a guide, for a task, which is well formed.
-#[tactic(auto)]
 fn shape_of<G: Guide>(task: &Task, guide: &G) -> Shape
     ensures well_formed { IsWellFormed task.now }
     ensures guides { result.guides ≡ G.guides guide.now }
@@ -300,7 +289,6 @@ fn shape_of<G: Guide>(task: &Task, guide: &G) -> Shape
 }
 
 /// Searches, or finds that memory is wanting.
-#[tactic(auto)]
 fn try_search<G: Guide, C: Clock>(
     alloc: Global,
     task: &Task,
@@ -334,7 +322,6 @@ fn try_search<G: Guide, C: Clock>(
 }
 
 /// Searches a task from its initial state, guided by `guide`.
-#[tactic(auto)]
 pub fn search<G: Guide, C: Clock>(
     alloc: Global,
     task: &Task,
@@ -344,11 +331,9 @@ pub fn search<G: Guide, C: Clock>(
 ) -> SearchEnd
     requires setting { IsSetting setting.now }
     requires same_task { G.is_for guide.old task.now }
-    ensures end {
-        EndHolds (phase_by task.now setting.now (G.guides guide.old) (G.preferring guide.old))
+    ensures end { EndHolds (phase_by task.now setting.now (G.guides guide.old) (G.preferring guide.old))
         (G.fits guide.old task.now) result }
-    ensures clock {
-        ClockHolds (phase_by task.now setting.now (G.guides guide.old) (G.preferring guide.old))
+    ensures clock { ClockHolds (phase_by task.now setting.now (G.guides guide.old) (G.preferring guide.old))
         (C.answers clock.old) (C.answers clock.new) result }
     ensures moment { IsBetween (C.last clock.old) (C.last clock.new) (moment_by result) }
     ensures later { C.last clock.old ≤ C.last clock.new }
