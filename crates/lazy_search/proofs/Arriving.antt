@@ -1,8 +1,9 @@
 -- What a decision says of the state that an entry leads to.
-use Rattle.std.proofs.Common.{◌≡◌, ℕ, ◌<◌, Bool, true, false, not, List, map, length, get_or, None, refl, ap, sym, ◌∙◌, subst, arith}
+use Rattle.std.proofs.Common.{◌≡◌, ℕ, ◌<◌, Bool, true, false, not, List, map, length, get_or, slice_get, Some, None, refl, ap, sym, ◌∙◌, subst, arith}
 use Rattle.std.specs.Prelude.{◌&&◌, nat_lt, Vec}
 use Rattle.std.specs.declared.alloc.Global.{Global}
 use Rattle.std.proofs.lemmas.Option.{slice_get_within}
+use Rattle.sas_task.specs.States.{IsState, step}
 use Rattle.packed_state.specs.Packing.{Places, packed}
 use Rattle.state_registry.specs.Registries.{Visited as Visits}
 use Rattle.state_registry.specs.Interning.{Interns}
@@ -19,7 +20,7 @@ use Rattle.lazy_search.specs.declared.machine.Decision.TheVariants.{Known, Full,
 use Rattle.lazy_search.specs.States.{AreFor}
 use Rattle.lazy_search.specs.Machines.{packed_at, place_there, Reaches, Arrives}
 use Rattle.lazy_search.proofs.Reaching.{sound_of}
-use Rattle.lazy_search.proofs.Deciding.{IsThere, to_state, known_there, rows_count, visits_new, finds_full, stays_known, visits_again}
+use Rattle.lazy_search.proofs.Deciding.{IsThere, next_is, to_state, known_there, rows_count, visits_new, finds_full, stays_known, visits_again}
 
 -- the machine with other states
 abbrev pub with_states : Machine → States → Machine
@@ -34,6 +35,21 @@ pub record Looked (phase : Phase) (m : Machine) (past : Past) (r : Reached) (R :
   pub most : s.registry.most ≡ between.registry.most
   pub layout : s.registry.layout ≡ between.registry.layout
   pub interns : Interns between.registry.states between.registry.most (packed between.registry.layout between.next.items) found s.registry.states
+
+-- The calls that look for it say so.
+pub looked : (phase : Phase) (m : Machine) (past : Past) (r : Reached) (R : Reaches phase m m.states.registry.states past r) (between s : States) (value found : Interned) → IsPhase phase → between.registry ≡ m.states.registry
+    → ((state : List ℕ) → IsState phase.parts.variables state → slice_get m.states.registry.states r.parent ≡ Some (packed m.states.registry.layout state) → step phase.parts state r.popped.entry.op ≡ Some between.next.items)
+    → AreFor s phase.parts → s.next ≡ between.next → s.registry.most ≡ between.registry.most → s.registry.layout ≡ between.registry.layout
+    → Interns between.registry.states between.registry.most (packed between.registry.layout between.next.items) value s.registry.states → value ≡ found → Looked phase m past r R between s found
+looked phase m past r R between s value found is kept next ready same_next most layout interns same = record {
+  kept = kept;
+  next = next_is phase m past r.popped.entry r.parent between.next.items (sound_of phase m.log.visits m.log.pops past is R.kept.logged) R.kept R.goes R.parent next;
+  ready = ready;
+  same_next = same_next;
+  most = most;
+  layout = layout;
+  interns = subst (λ (i : Interned). Interns between.registry.states between.registry.most (packed between.registry.layout between.next.items) i s.registry.states) same interns;
+}
 
 over_real : (phase : Phase) (m : Machine) (words : List (List ℕ)) (past : Past) (r : Reached) (b : Bool) (R : Reaches phase m words past r) → is_below phase.setting.bound r.real ≡ b → is_below phase.setting.bound (place_there phase past r.popped.entry R.goes).real ≡ b
 over_real phase m words past r b R e = ap (is_below phase.setting.bound) (sym R.real) ∙ e

@@ -1,4 +1,4 @@
-use Rattle.std.proofs.Common.{◌≡◌, ℕ, List, ap, sym, ◌∙◌}
+use Rattle.std.proofs.Common.{ap, sym, ◌∙◌}
 use Rattle.packed_state.specs.Packing.{Places}
 use Rattle.lazy_search.proofs.Unpacking.{words_long, unpacked}
 use Rattle.lazy_search.proofs.states.States.state_into.Goals as goal
