@@ -1,5 +1,5 @@
 -- What the answer of a search says.
-use Rattle.std.proofs.Common.{◌≡◌, ◌↔◌, ℕ, ◌≤◌, Bool, true, false, List, [], Option, Some, None, refl, ap, sym, ◌∙◌, subst, ◌+◌, ◌∷◌, arith}
+use Rattle.std.proofs.Common.{◌≡◌, ℕ, ◌≤◌, Bool, List, [], Option, Some, None, refl, ap, sym, ◌∙◌, subst, ◌∷◌, arith}
 use Rattle.std.specs.Prelude.{is_some}
 use Rattle.sas_task.specs.declared.contents.Parts.{Parts}
 use Rattle.guide.specs.declared.seen.Seen.{Seen}
@@ -22,8 +22,8 @@ use Rattle.lazy_search.specs.declared.phase.Halt.TheVariants as halt
 use Rattle.lazy_search.specs.declared.phase.Found.{Found}
 use Rattle.lazy_search.specs.declared.phase.Found.TheVariants as found
 use Rattle.lazy_search.specs.declared.shape.Shape.{Shape}
-use Rattle.lazy_search.specs.Machines.{phase_of, past_in, Rests, IsGuided}
-use Rattle.lazy_search.specs.Ends.{Tells, EndsInPlan, EndsInSpace, EndsSo, EndHolds, ClockHolds, IsAnswered, IsBetween, moment_by, past_by, phase_by}
+use Rattle.lazy_search.specs.Machines.{phase_of, past_in, Rests}
+use Rattle.lazy_search.specs.Ends.{Tells, EndsInPlan, EndsInSpace, EndsSo, EndHolds, ClockHolds, IsAnswered, moment_by, past_by, phase_by}
 use Rattle.lazy_search.proofs.Halting.{IsOver, first_over}
 use Rattle.lazy_search.specs.Halts.{Halts, HaltEnds, Finds, space_end, end_with, moment_at}
 

@@ -1,15 +1,15 @@
 -- What the clock was asked, as a log goes on.
 use Rattle.std.proofs.Common.{◌≡◌, ◌≢◌, ℕ, ◌+◌, ◌<◌, ◌≤◌, ◌%◌, Bool, true, false, List, [], ◌∷◌, ◌++◌, length, Option, Some, None, refl, ap, sym, ◌∙◌, subst, arith, inl, inr}
-use Rattle.std.specs.Prelude.{if◌then◌else◌, option_and_then, is_some}
+use Rattle.std.specs.Prelude.{if◌then◌else◌, is_some}
 use Rattle.std.proofs.lemmas.List.{append-nil, append_assoc, length-append}
 use Rattle.std.proofs.lemmas.Bool.{lt-leb, le-leb, cases_eq}
 use Rattle.lama_host.specs.Streams.{Answers}
 use Rattle.search_log.specs.declared.setting.Stop.{Stop}
 use Rattle.search_log.specs.declared.setting.LimitHit.{LimitHit}
-use Rattle.search_log.specs.declared.setting.LimitHit.TheVariants.{Time, Pops, States}
+use Rattle.search_log.specs.declared.setting.LimitHit.TheVariants.{Time}
 use Rattle.search_log.specs.declared.turns.Pop.{Pop}
 use Rattle.search_log.specs.Phases.{Phase}
-use Rattle.search_log.specs.Clocks.{is_final, unfinal, times_asked, is_late, moment_of, AreAnswers}
+use Rattle.search_log.specs.Clocks.{unfinal, times_asked, is_late, AreAnswers}
 use Rattle.search_log.specs.ClockLaws.{unasked, first_early, first_late, unasked_final, unasked_between, asked_again, unfinal_more, answers_stay, one_early, one_late}
 use Rattle.lazy_search.specs.Outcomes.{PopsOne}
 use Rattle.lazy_search.specs.Ends.{IsAnswered, TellsOn, IsBetween}

@@ -1,22 +1,19 @@
 -- The plan and the space of a machine that halts.
-use Rattle.std.proofs.Common.{◌≡◌, ◌≢◌, ℕ, zero, suc, ◌+◌, ◌-◌, ◌<◌, ◌≤◌, ◌^◌, Bool, true, false, not, List, [], ◌∷◌, ◌++◌, map, take, length, slice_get, get_or, reverse, Option, Some, None, refl, ap, sym, ◌∙◌, subst, arith, inl, inr, ◌⊎◌}
-use Rattle.std.specs.Prelude.{option_map, slice_index, ◌&&◌, if◌then◌else◌, is_some}
-use Rattle.std.proofs.lemmas.List.{take_more, map-append, append_assoc, reverse-append, length-append, length-map}
-use Rattle.std.proofs.lemmas.Bool.{cases_lt, cases_eq, lt-ltb, le-ltb, and_parts}
+use Rattle.std.proofs.Common.{◌≡◌, ℕ, zero, suc, ◌+◌, ◌-◌, ◌<◌, ◌≤◌, ◌^◌, true, not, List, [], ◌∷◌, ◌++◌, map, take, length, slice_get, get_or, Option, Some, refl, ap, sym, ◌∙◌, subst, arith, inl, inr, ◌⊎◌}
+use Rattle.std.specs.Prelude.{option_map, slice_index}
+use Rattle.std.proofs.lemmas.List.{take_more, map-append, length-map}
+use Rattle.std.proofs.lemmas.Bool.{cases_lt, cases_eq, and_parts}
 use Rattle.std.proofs.lemmas.Option.{slice_get-map, slice_get_within, slice_get_past, get_or_from_slice_get}
-use Rattle.sas_task.specs.Runs.{IsPlan, IsPlanOf, cost_of, is_goal, start_of}
+use Rattle.sas_task.specs.Runs.{IsPlan, cost_of, is_goal, start_of}
 use Rattle.sas_task.specs.States.{IsState}
 use Rattle.sas_task.specs.Laws.{ops-within}
-use Rattle.packed_state.specs.Packing.{packed}
 use Rattle.open_lists.specs.declared.lists.OpenLists.{OpenLists}
 use Rattle.open_lists.specs.declared.list.OpenList.{OpenList}
-use Rattle.open_lists.specs.Lists.{Holds, queue, entries_in_list, list_count}
-use Rattle.open_lists.specs.Items.{Item, entries_under}
-use Rattle.search_log.specs.declared.turns.Pop.{Pop}
-use Rattle.search_log.specs.Logs.{Visit, Content}
+use Rattle.open_lists.specs.Lists.{Holds, entries_in_list, list_count}
+use Rattle.search_log.specs.Logs.{Visit}
 use Rattle.search_log.specs.Members.{Member}
 use Rattle.search_log.specs.Phases.{Phase, IsPhase, lists_of, is_below}
-use Rattle.search_log.specs.Places.{Place, Node, Past, latest, put_latest, is_goal_node}
+use Rattle.search_log.specs.Places.{Node, Past, latest, put_latest}
 use Rattle.search_log.specs.Pending.{pending}
 use Rattle.search_log.specs.Lawful.{GoesOn}
 use Rattle.search_log.specs.Ends.{EndsInGoal, EndsExhausted, EndsAtPops, last_of}
@@ -32,10 +29,10 @@ use Rattle.lazy_search.specs.declared.machine.Machine.{Machine}
 use Rattle.lazy_search.specs.States.{IsKept}
 use Rattle.lazy_search.specs.Trees.{AreEarlier, Traced}
 use Rattle.lazy_search.specs.Trees.Traced.{first, later}
-use Rattle.lazy_search.specs.Machines.{past_in, row_of, visit_at, packed_at, TreeStands, Keeps, Rests}
+use Rattle.lazy_search.specs.Machines.{past_in, row_of, visit_at, TreeStands, Keeps, Rests}
 use Rattle.lazy_search.specs.Ends.{EndsInPlan, EndsInSpace}
 use Rattle.lazy_search.proofs.Reaching.{sound_of, row_there, nothing_held}
-use Rattle.lazy_search.proofs.Deciding.{rows_count, words_there, words_count}
+use Rattle.lazy_search.proofs.Deciding.{rows_count, words_there}
 
 -- one element more in front
 pub take_one : {X : Type 0} (xs : List X) (i : ℕ) (x : X) → slice_get xs i ≡ Some x → take (i + 1) xs ≡ take i xs ++ x ∷ []
@@ -145,10 +142,10 @@ last_latest phase past n s last =
     ]
 
 -- the plan of a machine whose last visit is a goal
-pub ends_in_plan : (phase : Phase) (m : Machine) (visit id cost : ℕ) (path : List ℕ) (v : Visit) (row : Row) → IsPhase phase → Rests phase m (past_in phase m) → ((n : Node) × EndsInGoal phase (past_in phase m) n)
+pub ends_in_plan : (phase : Phase) (m : Machine) (visit : ℕ) (path : List ℕ) (v : Visit) (row : Row) → IsPhase phase → Rests phase m (past_in phase m) → ((n : Node) × EndsInGoal phase (past_in phase m) n)
     → visit ≡ length m.log.visits - 1 → length m.log.visits < 2 ^ 32 → Traced m.tree.items visit path → slice_get m.log.visits visit ≡ Some v → row ≡ get_or m.rows.items v.id row
     → EndsInPlan phase path row.real m.log
-ends_in_plan phase m visit id cost path v row is rests goal at few traced read read_row =
+ends_in_plan phase m visit path v row is rests goal at few traced read read_row =
     record {
       visit = n;
       goal = goal.1;

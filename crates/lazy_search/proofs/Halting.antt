@@ -1,18 +1,14 @@
 -- How a search halts after a turn.
-use Rattle.std.proofs.Common.{◌≡◌, ℕ, ◌+◌, ◌<◌, ◌≤◌, ◌%◌, Bool, true, false, List, [], length, Option, Some, None, refl, ap, sym, ◌∙◌, subst, arith, inl, inr, IfOk, OnOk, ◌↔◌, ◌≢◌, ◌∷◌, ◌++◌}
-use Rattle.std.specs.Prelude.{if◌then◌else◌, Result, Ok, Err, is_some}
+use Rattle.std.proofs.Common.{◌≡◌, ℕ, ◌<◌, ◌%◌, Bool, true, false, List, [], length, Option, Some, None, refl, ap, sym, ◌∙◌, subst, arith, inl, inr, IfOk, OnOk, ◌↔◌, ◌≢◌}
+use Rattle.std.specs.Prelude.{if◌then◌else◌, Result, Ok, Err}
 use Rattle.std.proofs.lemmas.Bool.{leb-true, cases_eq}
-use Rattle.sas_task.specs.declared.contents.Parts.{Parts}
 use Rattle.guide.specs.declared.seen.Seen.{Seen}
-use Rattle.search_log.specs.declared.setting.Setting.{Setting}
 use Rattle.search_log.specs.declared.setting.Stop.{Stop}
 use Rattle.search_log.specs.declared.setting.LimitHit.{LimitHit}
 use Rattle.search_log.specs.declared.setting.LimitHit.TheVariants.{Time, Pops, States}
 use Rattle.search_log.specs.Phases.{Phase}
-use Rattle.search_log.specs.Places.{Past}
 use Rattle.search_log.specs.Clocks.{is_late}
-use Rattle.search_log.specs.Lawful.{GoesOn}
-use Rattle.search_log.specs.Ends.{EndsExhausted, EndsAtPops, EndsByTime, EndsAtLimit}
+use Rattle.search_log.specs.Ends.{EndsExhausted, EndsAtPops, EndsAtLimit}
 use Rattle.lazy_search.specs.declared.machine.Machine.{Machine}
 use Rattle.lazy_search.specs.declared.machine.Turned.{Turned}
 use Rattle.lazy_search.specs.declared.machine.Turned.TheVariants.{Empty, Done, AtGoal, AtFull}

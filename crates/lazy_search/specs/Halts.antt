@@ -4,7 +4,7 @@ use Rattle.lama_host.specs.Streams.{Answers}
 use Rattle.guide.specs.declared.seen.Seen.{Seen}
 use Rattle.search_log.specs.declared.setting.Stop.{Stop}
 use Rattle.search_log.specs.declared.setting.LimitHit.{LimitHit}
-use Rattle.search_log.specs.declared.setting.LimitHit.TheVariants.{Time, Pops, States}
+use Rattle.search_log.specs.declared.setting.LimitHit.TheVariants.{Time}
 use Rattle.search_log.specs.Phases.{Phase}
 use Rattle.search_log.specs.Places.{Node, Past}
 use Rattle.search_log.specs.Ends.{EndsInGoal, EndsExhausted, EndsAtLimit}

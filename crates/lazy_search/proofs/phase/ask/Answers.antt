@@ -1,4 +1,4 @@
-use Rattle.std.proofs.Common.{◌≡◌, ◌≤◌, ◌<◌, ◌+◌, ℕ, Option, None, refl, arith}
+use Rattle.std.proofs.Common.{◌<◌, ◌+◌, refl, arith}
 use Rattle.lazy_search.proofs.Clocking.{tells_same, tells_one, asks_none, asks_early, asks_late}
 use Rattle.lazy_search.proofs.phase.ask.Goals.{then-moment-stop-via-then-moment-stop, then-moment-stop-via-else-moment-stop+then-moment-stop-2}
 use Rattle.lazy_search.proofs.phase.ask.Goals as goal

@@ -1,4 +1,4 @@
-use Rattle.std.proofs.Common.{◌≡◌, refl, ap, sym, ◌∙◌, subst}
+use Rattle.std.proofs.Common.{◌≡◌, ap, sym, ◌∙◌, subst}
 use Rattle.lazy_search.specs.Ends.{EndsSo, moment_by}
 use Rattle.lazy_search.specs.Halts.{end_with}
 use Rattle.lazy_search.specs.Machines.{phase_of}

@@ -1,4 +1,4 @@
-use Rattle.std.proofs.Common.{◌≡◌, refl, sym, subst, IfOk}
+use Rattle.std.proofs.Common.{refl, sym, subst, IfOk}
 use Rattle.lazy_search.specs.declared.phase.Halt.{Halt}
 use Rattle.lazy_search.specs.declared.phase.Found.TheVariants.{Space, Limit}
 use Rattle.lazy_search.specs.Halts.{HaltEnds, Finds}

@@ -1,4 +1,4 @@
-use Rattle.std.proofs.Common.{◌≡◌, ◌≤◌, ◌↔◌, ℕ, List, [], Option, None, refl, ap, sym, ◌∙◌, subst, arith}
+use Rattle.std.proofs.Common.{List, None, refl, sym, subst, arith}
 use Rattle.search_log.specs.declared.turns.Pop.{Pop}
 use Rattle.lazy_search.specs.declared.machine.Turned.TheVariants.{Done, AtGoal}
 use Rattle.lazy_search.specs.Machines.{phase_of}

@@ -1,4 +1,4 @@
-use Rattle.std.proofs.Common.{◌≡◌, ◌≤◌, ◌<◌, ◌+◌, ◌-◌, ℕ, List, [], length, slice_get, Some, refl, ap, sym, ◌∙◌, subst, arith}
+use Rattle.std.proofs.Common.{◌-◌, ℕ, List, length, ap, sym, subst, arith}
 use Rattle.lazy_search.specs.declared.paths.Came.{Came}
 use Rattle.lazy_search.specs.Trees.{AreEarlier, Traced}
 use Rattle.lazy_search.specs.Ends.{EndsInPlan}
@@ -47,5 +47,5 @@ returns c =
     let row = c.index-row.result.now in
     let path = c.in_ok-ops.ops.items in
     let traced = subst (λ (t : List Came). Traced t visit path) c.deref.ensures.value c.in_ok-ops.ensures in
-    let plan = ends_in_plan phase m visit 0 0 path _ row c.requires.phase c.requires.rests c.requires.goal (ap (λ (n : ℕ). n - 1) c.visits-visit.ensures.count) (omega (arith, c.visits-visit.ensures.count, c.visits-visit.ensures.few)) traced c.visit-id.ensures c.index-row.ensures in
+    let plan = ends_in_plan phase m visit path _ row c.requires.phase c.requires.rests c.requires.goal (ap (λ (n : ℕ). n - 1) c.visits-visit.ensures.count) (omega (arith, c.visits-visit.ensures.count, c.visits-visit.ensures.few)) traced c.visit-id.ensures c.index-row.ensures in
     subst (λ (ops : List ℕ). EndsInPlan phase ops row.real m.log) (sym c.from.ensures) plan

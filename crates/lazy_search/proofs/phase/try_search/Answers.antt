@@ -1,14 +1,13 @@
-use Rattle.std.proofs.Common.{◌≡◌, ◌≤◌, ◌↔◌, ℕ, List, [], Option, None, Some, IfOk, refl, ap, sym, ◌∙◌, subst, arith}
+use Rattle.std.proofs.Common.{◌≡◌, List, None, Some, IfOk, sym, subst, arith}
 use Rattle.search_log.specs.declared.turns.Pop.{Pop}
 use Rattle.search_log.specs.Phases.{Phase}
 use Rattle.search_log.specs.Clocks.{moment_of}
-use Rattle.lazy_search.specs.declared.end.SearchEnd.{SearchEnd}
 use Rattle.lazy_search.specs.declared.end.SearchEnd.TheVariants.{Limit}
 use Rattle.lazy_search.specs.Machines.{phase_of}
 use Rattle.lazy_search.specs.Halts.{moment_at}
-use Rattle.lazy_search.specs.Ends.{EndsSo, EndHolds, ClockHolds, IsAnswered, IsBetween, moment_by, phase_by}
+use Rattle.lazy_search.specs.Ends.{EndsSo, EndHolds, ClockHolds, IsAnswered, IsBetween, moment_by}
 use Rattle.lazy_search.proofs.Clocking.{tells_then, asks_first, between_from}
-use Rattle.lazy_search.proofs.Halting.{asks_over, on_ok, if_both}
+use Rattle.lazy_search.proofs.Halting.{asks_over, if_both}
 use Rattle.lazy_search.proofs.Answering.{halt_ends, tells, end_holds, clock_holds, first_limit, phase_same, is_phase}
 use Rattle.lazy_search.proofs.phase.try_search.Goals as goal
 
