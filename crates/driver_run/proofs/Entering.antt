@@ -1,9 +1,8 @@
 -- The one entry as events of the core, and what its report tells.
-use Rattle.std.proofs.Common.{◌≡◌, ◌≢◌, ◌∙◌, sym, ap, subst, refl, ℕ, zero, suc, ◌≤◌, List, [], ◌∷◌, ◌++◌, Bool, true, false, slice_get, Some, None, Ok, arith}
+use Rattle.std.proofs.Common.{◌≡◌, ◌∙◌, sym, ap, subst, refl, ℕ, zero, suc, ◌≤◌, List, [], ◌∷◌, ◌++◌, Bool, true, false, slice_get, Some, None, Ok, arith}
 use Rattle.std.proofs.lemmas.List.Elements.{All-cons, All-nil}
-use Rattle.std.specs.FinMap.{get}
 use Rattle.lama_host.specs.declared.files.Failed.{Failed}
-use Rattle.lama_host.specs.Folder.{Told, Files, Changes, last_of}
+use Rattle.lama_host.specs.Folder.{Told, Changes, last_of}
 use Rattle.lama_host.specs.StepLaws.{leaves_by}
 use Rattle.lama_num.specs.Names.{part_name}
 use Rattle.plan_manager.specs.Family.{SameOutside}
@@ -32,9 +31,7 @@ use Rattle.driver_core.specs.Laws.{none_before_first}
 use Rattle.driver_core.specs.Ends.{code_of}
 use Rattle.driver_run.specs.declared.entry.Times.{Times}
 use Rattle.driver_run.specs.declared.entry.Solved.{Solved}
-use Rattle.candidates.specs.declared.offers.Candidate.{Candidate as Offered}
 use Rattle.candidates.specs.declared.offers.Found.TheVariants.{Kept as WasKept}
-use Rattle.driver_run.specs.declared.report.EntryEnd.{EntryEnd}
 use Rattle.driver_run.specs.declared.report.Outcome.{Outcome}
 use Rattle.driver_run.specs.declared.report.Outcome.TheVariants.{Over, Unsolvable, Limit}
 use Rattle.driver_run.specs.Reports.{KeepsPlans, part_of}

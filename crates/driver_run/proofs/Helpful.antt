@@ -1,6 +1,5 @@
 -- Operators that are found among some that ascend, and what the guide of the search says.
-use Rattle.std.proofs.Common.{◌≡◌, ◌∙◌, sym, ap, subst, refl, ℕ, zero, suc, ◌+◌, ◌-◌, ◌<◌, ◌≤◌, List, [], ◌∷◌, ◌++◌, length, Bool, true, false, nat_eq, filter, get_or, Result, Ok, Err, is_ok, arith, inl, inr, eq-eqb}
-use Rattle.std.specs.List.{list_any}
+use Rattle.std.proofs.Common.{◌≡◌, sym, subst, refl, ℕ, zero, suc, ◌+◌, ◌-◌, ◌<◌, ◌≤◌, List, [], ◌∷◌, ◌++◌, length, true, false, nat_eq, filter, get_or, Result, Ok, Err, is_ok, arith, inl, inr, eq-eqb}
 use Rattle.std.specs.List.Sorted.{IsStrictlyIncreasing, IsBinarySearchResult}
 use Rattle.std.specs.Ordering.{nat_cmp}
 use Rattle.std.proofs.lemmas.Bool.{cases_Bool, cases_lt, eqb-true}
@@ -19,7 +18,7 @@ use Rattle.relaxed_task.specs.declared.relaxation.Lists.{Lists}
 use Rattle.h_ff.specs.RelaxedPlans.{IsFf}
 use Rattle.guide.specs.declared.seen.Seen.{Seen}
 use Rattle.guide.specs.Operators.{applicable_operators, is_among}
-use Rattle.driver_run.specs.Guided.{SaysFf, FitsFf, number_of, is_infinite}
+use Rattle.driver_run.specs.Guided.{FitsFf, number_of, is_infinite}
 
 rises : (xs : List ℕ) → IsStrictlyIncreasing xs → (i d : ℕ) → i + d < length xs → get_or xs i 0 ≤ get_or xs (i + d) 0
 rises xs up i zero lt = let same : i + 0 ≡ i = omega arith in rw same (omega arith)

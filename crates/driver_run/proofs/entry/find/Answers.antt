@@ -1,8 +1,8 @@
-use Rattle.std.proofs.Common.{subst, refl, true, ap}
+use Rattle.std.proofs.Common.{subst, refl, true}
 use Rattle.search_log.specs.declared.setting.Setting.{Setting}
 use Rattle.lazy_search.specs.Ends.{EndHolds, ClockHolds, phase_by}
 use Rattle.driver_run.specs.Guided.{FitsFf}
-use Rattle.driver_run.specs.Searches.{greedy, phase_of}
+use Rattle.driver_run.specs.Searches.{phase_of}
 use Rattle.driver_run.proofs.Finding.{unasked}
 use Rattle.driver_run.proofs.entry.find.Goals as goal
 

@@ -1,7 +1,7 @@
-use Rattle.std.proofs.Common.{◌∙◌, [], ◌∷◌, ap, filter, List, ℕ}
+use Rattle.std.proofs.Common.{◌∙◌, [], ap, filter, List, ℕ}
 use Rattle.guide.specs.OperatorLaws.{kept_among}
 use Rattle.guide.specs.Operators.{is_among}
-use Rattle.driver_run.proofs.Helpful.{by_real_costs, helpful_ascend, dead_by_ff, fits_last}
+use Rattle.driver_run.proofs.Helpful.{by_real_costs, helpful_ascend, fits_last}
 use Rattle.driver_run.proofs.ff_guide.FfGuideGuide.visit.Goals as goal
 
 pub prefer_into-requires-clause-helpful : goal.prefer_into-requires-clause-helpful
