@@ -1,9 +1,8 @@
 -- The one entry as events of the core, and what its report tells.
-use Rattle.std.proofs.Common.{◌≡◌, ◌≢◌, ◌∙◌, sym, ap, subst, refl, ℕ, zero, suc, ◌≤◌, List, [], ◌∷◌, ◌++◌, Bool, true, false, slice_get, Some, None, Ok, arith}
+use Rattle.std.proofs.Common.{◌≡◌, ◌∙◌, sym, ap, subst, refl, ℕ, zero, suc, ◌≤◌, List, [], ◌∷◌, ◌++◌, Bool, true, false, slice_get, Some, None, Ok, arith}
 use Rattle.std.proofs.lemmas.List.Elements.{All-cons, All-nil}
-use Rattle.std.specs.FinMap.{get}
 use Rattle.lama_host.specs.declared.files.Failed.{Failed}
-use Rattle.lama_host.specs.Folder.{Told, Files, Changes, last_of}
+use Rattle.lama_host.specs.Folder.{Told, Changes, last_of}
 use Rattle.lama_host.specs.StepLaws.{leaves_by}
 use Rattle.lama_num.specs.Names.{part_name}
 use Rattle.plan_manager.specs.Family.{SameOutside}
@@ -17,10 +16,10 @@ use Rattle.sas_task.specs.declared.contents.Parts.{Parts}
 use Rattle.sas_task.specs.declared.plans.Kept.{Kept}
 use Rattle.exit_codes.specs.declared.parts.Part.{Part}
 use Rattle.exit_codes.specs.declared.parts.Part.TheVariants as part
-use Rattle.plain_search.specs.declared.space.Member.{Member}
-use Rattle.plain_search.specs.Spaces.{IsExhausted}
-use Rattle.sas_task.specs.Runs.{IsPlanOf}
-use Rattle.plain_search.specs.Visits.{HasNoPlan}
+use Rattle.search_log.specs.declared.setting.LimitHit.{LimitHit}
+use Rattle.search_log.specs.Logs.{Content}
+use Rattle.search_log.specs.Members.{Member}
+use Rattle.lazy_search.specs.declared.end.SearchEnd.TheVariants as search
 use Rattle.driver_core.specs.declared.events.Event.{Event}
 use Rattle.driver_core.specs.declared.events.Event.TheVariants.{Began, Candidate, Ended}
 use Rattle.driver_core.specs.Turns.{turn_of, begins_at, IsOn}
@@ -31,12 +30,14 @@ use Rattle.driver_core.specs.Legal.{IsAllowed}
 use Rattle.driver_core.specs.Laws.{none_before_first}
 use Rattle.driver_core.specs.Ends.{code_of}
 use Rattle.driver_run.specs.declared.entry.Times.{Times}
-use Rattle.candidates.specs.declared.offers.Candidate.{Candidate as Offered}
+use Rattle.driver_run.specs.declared.entry.Solved.{Solved}
 use Rattle.candidates.specs.declared.offers.Found.TheVariants.{Kept as WasKept}
-use Rattle.driver_run.specs.declared.report.EntryEnd.{EntryEnd}
-use Rattle.driver_run.specs.declared.report.Outcome.TheVariants.{Over, Unsolvable}
-use Rattle.driver_run.specs.RunEvents.{set_at}
-use Rattle.driver_run.specs.Entries.{IsSolved}
+use Rattle.driver_run.specs.declared.report.Outcome.{Outcome}
+use Rattle.driver_run.specs.declared.report.Outcome.TheVariants.{Over, Unsolvable, Limit}
+use Rattle.driver_run.specs.Reports.{KeepsPlans, part_of}
+use Rattle.driver_run.specs.RunEvents.{set_at, is_last}
+use Rattle.driver_run.specs.Searches.{IsSearched, OutcomeOf}
+use Rattle.driver_run.specs.Entries.{IsSolved, report_of}
 
 -- the entry may begin, offer a plan, and end
 pub may_begin : (start began : ℕ) → start ≤ began → IsAllowed (set_at start) [] (Began 1 1 began)
@@ -86,22 +87,22 @@ none_at : {A : Type 0} (y : A) (k : ℕ) → slice_get [] k ≡ Some y → ⊥
 none_at y k at = let s : None ≡ Some y = at in cc
 
 -- with its plan kept
-pub solved_by_plan : (parts : Parts) (times : Times) (ops : List ℕ) (cost code : ℕ) → IsPlanOf parts ops cost → times.start ≤ times.began →
+pub solved_by_plan : (parts : Parts) (times : Times) (ops : List ℕ) (cost code : ℕ) (log : Content) → IsSearched parts (search.Plan ops cost log) → times.start ≤ times.began →
     code ≡ code_of (set_at times.start) (Began 1 1 times.began ∷ Candidate 1 1 (Some cost) ∷ Ended 1 1 part.Over false ∷ []) →
     IsSolved parts times (record {
       kept = record { entry = 1; ops = ops; cost = cost } ∷ [];
       candidates = record { round = 1; entry = 1; file = None; found = WasKept 0 } ∷ [];
-      ends = record { entry = 1; began = times.began; outcome = Over } ∷ [];
+      ends = record { entry = 1; began = times.began; outcome = Over log } ∷ [];
       code = code;
     })
-solved_by_plan parts times ops cost code plan later is = record {
+solved_by_plan parts times ops cost code log found later is = let plan = found.1.plan in record {
   plans = record {
     plans = λ k kept at. rw (← (only (record { entry = 1; ops = ops; cost = cost }) kept k at)) (record { parts = parts; of_task = refl; by_entry = refl; plan = plan.plan; cost_is = plan.cost_is });
     most = omega arith;
     own = λ k candidate at. rw (← (only (record { round = 1; entry = 1; file = None; found = WasKept 0 }) candidate k at)) (refl, refl);
     places = refl;
   };
-  ends = (refl, refl, refl);
+  ends = (refl, refl, (parts, refl, (record { entry = 1; ops = ops; cost = cost }, refl, found)));
   events = record {
     legal = (may_begin times.start times.began later, (may_offer times.start times.began cost, (runs_offered times.began cost, tt)));
     kept = refl;
@@ -113,30 +114,54 @@ solved_by_plan parts times ops cost code plan later is = record {
   steps = λ k kept at. rw (← (only (record { entry = 1; ops = ops; cost = cost }) kept k at)) plan.few;
 }
 
+-- what an entry without a plan did
+abbrev without : Times → Outcome → ℕ → Solved
+without times outcome code = record { kept = []; candidates = []; ends = record { entry = 1; began = times.began; outcome = outcome } ∷ []; code = code }
+
+without_plans : (parts : Parts) (times : Times) (outcome : Outcome) (code : ℕ) → KeepsPlans (report_of parts times.start (without times outcome code))
+without_plans parts times outcome code = record {
+  plans = λ k kept at. absurd (none_at kept k at);
+  most = omega arith;
+  own = λ k candidate at. absurd (none_at candidate k at);
+  places = refl;
+}
+
 -- with the whole space
-pub solved_by_space : (parts : Parts) (times : Times) (space : List Member) (code : ℕ) → IsExhausted parts space → HasNoPlan parts → times.start ≤ times.began →
-    code ≡ code_of (set_at times.start) (Began 1 1 times.began ∷ Ended 1 1 part.Unsolvable true ∷ []) →
-    IsSolved parts times (record {
-      kept = [];
-      candidates = [];
-      ends = record { entry = 1; began = times.began; outcome = Unsolvable space } ∷ [];
-      code = code;
-    })
-solved_by_space parts times space code whole none later is = record {
-  plans = record {
-    plans = λ k kept at. absurd (none_at kept k at);
-    most = omega arith;
-    own = λ k candidate at. absurd (none_at candidate k at);
-    places = refl;
-  };
-  ends = (refl, refl, (refl, parts, refl, whole, none));
-  events = record {
-    legal = (may_begin times.start times.began later, (runs_begun times.began, tt));
-    kept = refl;
-    over = λ finished. refl;
-    code = λ finished. is;
-  };
+solved_by_space : (parts : Parts) (times : Times) (space : List Member) (log : Content) (code : ℕ) → OutcomeOf parts [] (Unsolvable space log) → times.start ≤ times.began →
+    code ≡ code_of (set_at times.start) (Began 1 1 times.began ∷ Ended 1 1 part.Unsolvable true ∷ []) → IsSolved parts times (without times (Unsolvable space log) code)
+solved_by_space parts times space log code ended later is = record {
+  plans = without_plans parts times (Unsolvable space log) code;
+  ends = (refl, refl, (parts, refl, ended));
+  events = record { legal = (may_begin times.start times.began later, (runs_begun times.began, tt)); kept = refl; over = λ finished. refl; code = λ finished. is };
   code = is;
   began = refl;
   steps = λ k kept at. absurd (none_at kept k at);
 }
+
+-- at a limit
+solved_at_limit : (parts : Parts) (times : Times) (hit : LimitHit) (log : Content) (code : ℕ) → OutcomeOf parts [] (Limit hit log) → times.start ≤ times.began →
+    code ≡ code_of (set_at times.start) (Began 1 1 times.began ∷ Ended 1 1 part.Limit false ∷ []) → IsSolved parts times (without times (Limit hit log) code)
+solved_at_limit parts times hit log code ended later is = record {
+  plans = without_plans parts times (Limit hit log) code;
+  ends = (refl, refl, (parts, refl, ended));
+  events = record { legal = (may_begin times.start times.began later, (runs_begun times.began, tt)); kept = refl; over = λ finished. refl; code = λ finished. is };
+  code = is;
+  began = refl;
+  steps = λ k kept at. absurd (none_at kept k at);
+}
+
+none_kept : (plan : Kept) → [] ≡ plan ∷ [] → ⊥
+none_kept plan is = cc
+
+counts_as : (times : Times) (code : ℕ) (part other : Part) (last final : Bool) → part ≡ other → last ≡ final →
+    code ≡ code_of (set_at times.start) (Began 1 1 times.began ∷ Ended 1 1 part last ∷ []) → code ≡ code_of (set_at times.start) (Began 1 1 times.began ∷ Ended 1 1 other final ∷ [])
+counts_as times code part other last final same is_it is =
+    is ∙ ap (λ p. code_of (set_at times.start) (Began 1 1 times.began ∷ Ended 1 1 p last ∷ [])) same ∙ ap (λ l. code_of (set_at times.start) (Began 1 1 times.began ∷ Ended 1 1 other l ∷ [])) is_it
+
+-- without a plan
+pub solved_without : (parts : Parts) (times : Times) (outcome : Outcome) (counted : Part) (last : Bool) (code : ℕ) → counted ≡ part_of outcome → last ≡ is_last outcome →
+    OutcomeOf parts [] outcome → times.start ≤ times.began →
+    code ≡ code_of (set_at times.start) (Began 1 1 times.began ∷ Ended 1 1 counted last ∷ []) → IsSolved parts times (without times outcome code)
+solved_without parts times (Over log) counted last code same is_it ended later is = absurd (none_kept ended.0 ended.1)
+solved_without parts times (Unsolvable space log) counted last code same is_it ended later is = solved_by_space parts times space log code ended later (counts_as times code counted part.Unsolvable last true same is_it is)
+solved_without parts times (Limit hit log) counted last code same is_it ended later is = solved_at_limit parts times hit log code ended later (counts_as times code counted part.Limit last false same is_it is)

@@ -1,5 +1,5 @@
 -- What stands in the folder from call to call.
-use Rattle.std.proofs.Common.{◌≡◌, ◌≢◌, ◌∙◌, sym, ap, subst, refl, ℕ, zero, suc, ◌≤◌, List, [], Bool, true, false, Option, Some, None, is_some, Result, Ok, Err, OnOk, arith}
+use Rattle.std.proofs.Common.{◌≡◌, ◌≢◌, ◌∙◌, sym, ap, subst, refl, ℕ, zero, suc, List, [], true, false, Option, Some, None, is_some, Ok, arith}
 use Rattle.std.specs.FinMap.{get}
 use Rattle.lama_host.specs.declared.files.Failed.{Failed}
 use Rattle.lama_host.specs.Folder.{Told, Files, WhereTold, IsUntouched, Changes, last_of}
@@ -7,13 +7,13 @@ use Rattle.lama_num.specs.Names.{part_name}
 use Rattle.sas_task.specs.declared.contents.Parts.{Parts}
 use Rattle.sas_task.specs.declared.plans.Kept.{Kept}
 use Rattle.plan_manager.specs.Clearing.{IsCleared, Clears, LeftByClearing}
-use Rattle.plan_manager.specs.Family.{family_name, IsNoPlan, SameOutside}
+use Rattle.plan_manager.specs.Family.{IsNoPlan, SameOutside}
 use Rattle.plan_manager.specs.FamilyLaws.{family_zero, family_numbered}
 use Rattle.plan_manager.specs.Laws.{clearing_leaves, sealing_leaves}
 use Rattle.plan_manager.specs.Sealing.{HoldsPlans, Seals}
 use Rattle.lama_host.specs.Steps.{Leaves}
 use Rattle.lama_host.specs.StepLaws.{leaves_by, told_before}
-use Rattle.driver_run.specs.Leaves.{Holds, LeavesPlans}
+use Rattle.driver_run.specs.Leaves.{LeavesPlans}
 use Rattle.driver_run.specs.Words.{is_own_name, base_name}
 use Rattle.driver_run.proofs.OwnNames.{own_base, own_part, own_number}
 

@@ -1,4 +1,6 @@
 pub mod Entering
+pub mod Helpful
+pub mod Finding
 pub mod Leaving
 pub mod OwnNames
 pub mod Reporting

@@ -1,12 +1,10 @@
 -- What names a run's own files have, and lines of one word.
-use Rattle.std.proofs.Common.{◌≡◌, ◌≢◌, sym, ap, refl, ◌∙◌, ℕ, ◌≤◌, ◌<◌, ◌^◌, List, [], ◌∷◌, ◌++◌, length, take, drop, map, slice_get, append_assoc, Bool, true, false, ◌&&◌, ◌||◌, nat_eq, nat_le, Some, None, Result, Ok, Err, arith}
+use Rattle.std.proofs.Common.{◌≡◌, ◌≢◌, sym, ap, refl, ◌∙◌, ℕ, ◌≤◌, List, [], ◌∷◌, ◌++◌, length, take, drop, map, slice_get, append_assoc, Bool, true, false, ◌&&◌, ◌||◌, nat_le, Some, Result, Ok, Err, arith}
 use Rattle.std.specs.Prelude.{codes, decimal}
-use Rattle.std.specs.Str.{bytes_eq}
 use Rattle.std.proofs.lemmas.Slice.Eq.{bytes_eq-Decides}
 use Rattle.std.proofs.lemmas.Bool.Decides.{nat_tests}
 use Rattle.std.proofs.lemmas.List.{append-nil}
 use Rattle.std.proofs.Math.Seq.{take-append_seam, drop-append_seam}
-use Rattle.lama_num.specs.Decimals.{decimal_of}
 use Rattle.lama_num.specs.DecimalLaws.{decimal_of-decimal}
 use Rattle.lama_num.specs.Names.{numbered_name, part_name}
 use Rattle.driver_run.specs.declared.report.WordsFault.{WordsFault}

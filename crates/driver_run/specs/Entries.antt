@@ -46,7 +46,7 @@ pub record IsEntryReport (parts : Parts) (times : Times) (report : Report) : Typ
 -- The clock was asked once, and gave this answer.
 pub record AsksOnce (before now : ℕ) (told_before told_now : Option (List ℕ)) (answer : ℕ) : Type 0 where
   pub later : before ≤ answer
-  pub last : now ≡ answer
+  pub last : answer ≤ now
   pub answers : (all : List ℕ) → told_now ≡ Some all → (past : List ℕ) × (told_before ≡ Some past) × (all ≡ past ++ answer ∷ [])
 
 -- What a report tells of a run that began at this moment.

@@ -1,5 +1,5 @@
 -- What a run leaves in the folder.
-use Rattle.std.specs.Prelude.{ℕ, List, false, Option, Some, None}
+use Rattle.std.specs.Prelude.{List, false, Option, Some, None}
 use Rattle.lama_host.specs.Folder.{Files}
 use Rattle.sas_task.specs.declared.contents.Parts.{Parts}
 use Rattle.sas_task.specs.declared.plans.Kept.{Kept}

@@ -1,6 +1,8 @@
 pub mod Entries
+pub mod Guided
 pub mod Leaves
 pub mod Reports
 pub mod RunEvents
-pub mod Words
 pub mod Runs
+pub mod Searches
+pub mod Words

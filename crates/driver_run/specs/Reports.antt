@@ -1,6 +1,6 @@
 -- What a report tells.
 use Rattle.std.specs.Prelude.{◌≡◌, ◌≢◌, ℕ, ◌≤◌, nat_lt, List, [], ◌∷◌, length, map, slice_get, take, Option, Some, None, IfSome, Result, Ok, Err}
-use Rattle.std.specs.List.{filter_map, range_with_len}
+use Rattle.std.specs.List.{range_with_len}
 use Rattle.sas_task.specs.declared.contents.Parts.{Parts}
 use Rattle.sas_task.specs.declared.plans.Kept.{Kept}
 use Rattle.sas_task.specs.Runs.{IsPlan, cost_of}
@@ -11,8 +11,6 @@ use Rattle.exit_codes.specs.declared.parts.Part.{Part}
 use Rattle.exit_codes.specs.declared.parts.Part.TheVariants as part
 use Rattle.exit_codes.specs.Parts.{codes_of}
 use Rattle.exit_codes.specs.Combined.{combine_of}
-use Rattle.plain_search.specs.Spaces.{IsExhausted}
-use Rattle.plain_search.specs.Visits.{HasNoPlan}
 use Rattle.driver_run.specs.declared.report.Ended.{Ended}
 use Rattle.driver_run.specs.declared.report.Ended.TheVariants as ended
 use Rattle.driver_run.specs.declared.report.Report.{Report}
@@ -25,6 +23,7 @@ use Rattle.driver_run.specs.declared.report.Outcome.TheVariants as outcome
 use Rattle.driver_run.specs.declared.report.Why.{Why}
 use Rattle.driver_run.specs.declared.report.Why.TheVariants as why
 use Rattle.driver_run.specs.declared.report.WordsFault.{WordsFault}
+use Rattle.driver_run.specs.Searches.{OutcomeOf}
 use Rattle.driver_run.specs.declared.task_file.TaskFile.{TaskFile}
 use Rattle.driver_run.specs.declared.task_file.TaskFile.TheVariants as file
 
@@ -85,10 +84,9 @@ pub record KeepsPlans (report : Report) : Type 0 where
   pub own : (k : ℕ) (candidate : Candidate) → slice_get report.candidates k ≡ Some candidate → IsOwn candidate
   pub places : map kept_place report.candidates ≡ map Some (range_with_len 0 (length report.kept))
 
--- with a plan kept; or with nothing kept and the whole space that can be reached, so that no plan exists
+-- how an entry of the task ended
 abbrev pub IsOutcome : Report → Outcome → Type 0
-IsOutcome report outcome.Over = length report.kept ≡ 1
-IsOutcome report (outcome.Unsolvable space) = (report.kept ≡ []) × (parts : Parts) × (report.task ≡ Some parts) × IsExhausted parts space × HasNoPlan parts
+IsOutcome report outcome = (parts : Parts) × (report.task ≡ Some parts) × OutcomeOf parts report.kept outcome
 
 -- Where the run finished, its one entry ended; else none did, and nothing is kept.
 abbrev pub EndsAs : Report → List EntryEnd → Type 0
@@ -98,8 +96,9 @@ EndsAs report (end ∷ (second ∷ more)) = ⊥
 
 -- how the entry ended, as a part of the run
 abbrev pub part_of : Outcome → Part
-part_of outcome.Over = part.Over
-part_of (outcome.Unsolvable space) = part.Unsolvable
+part_of (outcome.Over log) = part.Over
+part_of (outcome.Unsolvable space log) = part.Unsolvable
+part_of (outcome.Limit hit log) = part.Limit
 
 -- a quantity above its limit, or a derived variable that isn't binary, is what this planner doesn't support
 abbrev pub task_code : SasFault → ℕ

@@ -30,8 +30,9 @@ candidate_event kept candidate = offers (turn_of 1 candidate.entry) (found_cost 
 
 -- an end that leaves other entries nothing to do
 abbrev pub is_last : Outcome → Bool
-is_last outcome.Over = false
-is_last (outcome.Unsolvable space) = true
+is_last (outcome.Over log) = false
+is_last (outcome.Unsolvable space log) = true
+is_last (outcome.Limit hit log) = false
 
 abbrev pub end_event : EntryEnd → Event
 end_event end = ends_as (turn_of 1 end.entry) (part_of end.outcome) (is_last end.outcome)

@@ -5,7 +5,6 @@ use Rattle.lama_host.specs.Folder.{Told, WhereTold, Rose}
 use Rattle.lama_host.specs.Steps.{Leaves, Stays}
 use Rattle.driver_run.specs.declared.report.Ended.{Ended}
 use Rattle.driver_run.specs.declared.report.Ended.TheVariants.{Done}
-use Rattle.driver_run.specs.declared.report.Report.{Report}
 use Rattle.driver_run.specs.declared.report.Why.TheVariants.{Fault}
 use Rattle.driver_run.specs.declared.report.WordsFault.{WordsFault}
 use Rattle.driver_run.specs.Words.{line_of}

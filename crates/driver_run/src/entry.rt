@@ -5,27 +5,30 @@ ghost use Rattle.lama_host.specs.Folder.{Rose};
 ghost use Rattle.plan_manager.specs.Family.{SameOutside};
 ghost use Rattle.lama_host.specs.Steps.{Leaves, Stays};
 ghost use Rattle.sas_task.specs.declared.contents.Parts.{Parts as TheParts};
-ghost use Rattle.plain_search.specs.Spaces.{IsExhausted};
-ghost use Rattle.sas_task.specs.Runs.{IsPlanOf};
-ghost use Rattle.plain_search.specs.Visits.{HasNoPlan};
+ghost use Rattle.sas_task.specs.WellFormed.{IsWellFormed};
+ghost use Rattle.lazy_search.specs.declared.end.SearchEnd.{SearchEnd as TheEnd};
 ghost use Rattle.driver_core.specs.declared.events.Event.{Event as TheEvent};
 ghost use Rattle.driver_core.specs.Ends.{code_of as code_by_events};
 ghost use Rattle.driver_core.specs.Turns.{turn_of, IsOn};
 ghost use Rattle.driver_core.specs.Standing.{StandsFor};
 ghost use Rattle.driver_run.specs.Leaves.{LeavesPlans};
-ghost use Rattle.driver_run.specs.RunEvents.{set_at};
+ghost use Rattle.driver_run.specs.Reports.{part_of as the_part_of};
+ghost use Rattle.driver_run.specs.RunEvents.{set_at, is_last as the_is_last};
+ghost use Rattle.driver_run.specs.Searches.{IsSearched, OutcomeOf, greedy as the_greedy};
 ghost use Rattle.driver_run.specs.Entries.{IsSolved, IsEntryReport, AsksOnce};
 ghost use Rattle.driver_run.specs.Words.{base_name};
 
+use crate::ff_guide::FfGuide;
 use crate::report::{EntryEnd, Outcome, Report, Why};
 use candidates::{Candidate, ReadError, keep_candidate};
 use driver_core::{Core, Event};
 use exit_codes::Part;
 use lama_host::{Clock, Failed, Folder};
 use lama_num::{NameBuf, NoMemory, Seq};
-use plain_search::{Found as Searched, Space, search};
+use lazy_search::{SearchEnd, search};
 use plan_manager::seal;
-use sas_task::{Kept, Task};
+use sas_task::{CostKind, Kept, Task};
+use search_log::{Log, Setting};
 use std::alloc::Global;
 
 /// The number of the one round.
@@ -135,10 +138,11 @@ fn keep_plan<F: Folder>(
     times: Times,
     ops: Seq<u32>,
     cost: u64,
+    log: Log,
 ) -> Result<Option<Solved>, NoMemory>
     requires idle { (F.told folder.old).busy ≡ [] }
     requires base { base.now ≡ base_name }
-    requires plan { IsPlanOf task.now ops cost }
+    requires found { IsSearched task.now (TheEnd.Plan ops cost log) }
     requires time { times.start ≤ times.began }
     requires setting { core.setting ≡ set_at times.start }
     requires stands { StandsFor core (TheEvent.Began 1 1 times.began ∷ []) }
@@ -152,7 +156,7 @@ fn keep_plan<F: Folder>(
     let mut core = core;
     let mut kept = Vec::new(alloc);
     let mut candidates = Vec::new(alloc);
-    let ends = end_of(alloc, times, Outcome::Over)?;
+    let ends = end_of(alloc, times, Outcome::Over { log })?;
     let plan = Kept {
         entry: ENTRY,
         ops,
@@ -184,17 +188,39 @@ fn keep_plan<F: Folder>(
     }
 }
 
-/// The entry found the whole space, and no plan.
-fn give_up(alloc: Global, core: Core, times: Times, space: Space) -> Result<Solved, NoMemory>
+/// How an end counts for the code.
+fn part_of(outcome: &Outcome) -> Part
+    ensures { result ≡ the_part_of outcome.now }
+{
+    match outcome {
+        Outcome::Over { .. } => Part::Over,
+        Outcome::Unsolvable { .. } => Part::Unsolvable,
+        Outcome::Limit { .. } => Part::Limit,
+    }
+}
+
+/// Whether an end leaves other entries nothing to do.
+fn is_last(outcome: &Outcome) -> bool
+    ensures { result ≡ the_is_last outcome.now }
+{
+    match outcome {
+        Outcome::Over { .. } => false,
+        Outcome::Unsolvable { .. } => true,
+        Outcome::Limit { .. } => false,
+    }
+}
+
+/// The entry ended without a plan.
+fn give_up(alloc: Global, core: Core, times: Times, outcome: Outcome) -> Result<Solved, NoMemory>
     requires time { times.start ≤ times.began }
     requires setting { core.setting ≡ set_at times.start }
     requires stands { StandsFor core (TheEvent.Began 1 1 times.began ∷ []) }
-    ensures solved { (parts : TheParts) → IsExhausted parts space → HasNoPlan parts
+    ensures solved { (parts : TheParts) → OutcomeOf parts [] outcome
         → IfOk result (IsSolved parts times) }
 {
     let mut core = core;
-    let ends = end_of(alloc, times, Outcome::Unsolvable { space })?;
-    let code = end(&mut core, Part::Unsolvable, true);
+    let code = end(&mut core, part_of(&outcome), is_last(&outcome));
+    let ends = end_of(alloc, times, outcome)?;
     Ok(Solved {
         kept: Seq::new(alloc),
         candidates: Seq::new(alloc),
@@ -203,10 +229,44 @@ fn give_up(alloc: Global, core: Core, times: Times, space: Space) -> Result<Solv
     })
 }
 
+/// A greedy search by real costs, with no limit but the greatest.
+fn greedy() -> Setting
+    ensures { result ≡ the_greedy }
+{
+    Setting {
+        cost: CostKind::Normal,
+        weight: None,
+        reopen: false,
+        boost: 1000,
+        bound: None,
+        most_pops: 1_099_511_627_776,
+        most_states: 2_147_483_647,
+        stop: None,
+    }
+}
+
+/// Searches by FF and the operators that it prefers. The clock isn't asked.
+fn find<C: Clock>(alloc: Global, task: &Task, clock: &mut C) -> Result<SearchEnd, NoMemory>
+    ensures found { IfOk result (IsSearched task.now) }
+    ensures memory { IfOk result (λ found. found ≢ TheEnd.NoMemory) }
+    ensures task { IsWellFormed task.now }
+    ensures later { C.last clock.old ≤ C.last clock.new }
+    ensures unasked { (told : List ℕ) → IfOk result
+        (λ found. C.answers clock.new ≡ Some told → C.answers clock.old ≡ Some told) }
+{
+    let _parts = task.parts();
+    let mut guide = FfGuide::new(alloc, task)?;
+    match search(alloc, task, &greedy(), &mut guide, clock) {
+        SearchEnd::NoMemory => Err(NoMemory),
+        found => Ok(found),
+    }
+}
+
 /// Searches, and keeps the plan where there is one; None where a call of the folder failed.
-fn solve<F: Folder>(
+fn solve<F: Folder, C: Clock>(
     alloc: Global,
     folder: &mut F,
+    clock: &mut C,
     base: &NameBuf,
     task: &Task,
     times: Times,
@@ -220,13 +280,24 @@ fn solve<F: Folder>(
     ensures outside { IfOk result (λ solved. solved ≢ None
         → Leaves (F.told folder.old) (F.told folder.new) (SameOutside base_name)) }
     ensures solved { IfOk result (λ solved. IfSome solved (IsSolved task.now times)) }
+    ensures later { C.last clock.old ≤ C.last clock.new }
+    ensures unasked { (told : List ℕ) → IfOk result
+        (λ _. C.answers clock.new ≡ Some told → C.answers clock.old ≡ Some told) }
 {
     let core = begin(alloc, times)?;
-    match search(alloc, task)? {
-        Searched::Plan { ops, cost } => {
-            keep_plan(alloc, folder, base, task, core, times, ops, cost)
+    match find(alloc, task, clock)? {
+        SearchEnd::Plan { ops, cost, log } => {
+            keep_plan(alloc, folder, base, task, core, times, ops, cost, log)
         }
-        Searched::Unsolvable(space) => Ok(Some(give_up(alloc, core, times, space)?)),
+        SearchEnd::Unsolvable { space, log } => {
+            let outcome = Outcome::Unsolvable { space, log };
+            Ok(Some(give_up(alloc, core, times, outcome)?))
+        }
+        SearchEnd::Limit { hit, log } => {
+            let outcome = Outcome::Limit { hit, log };
+            Ok(Some(give_up(alloc, core, times, outcome)?))
+        }
+        SearchEnd::Unsolved { .. } | SearchEnd::NoMemory => unreachable!(),
     }
 }
 
@@ -293,7 +364,7 @@ pub fn run_entry<F: Folder, C: Clock>(
 {
     let began = clock.now();
     let times = Times { start, began };
-    match solve(alloc, folder, base, &task, times)? {
+    match solve(alloc, folder, clock, base, &task, times)? {
         None => Ok(stopped(alloc, Some(task), start, Why::Fault, 35)),
         Some(solved) => Ok(finish(alloc, folder, base, task, times, solved)),
     }

@@ -2,6 +2,7 @@
 #![tactic(auto)]
 
 mod entry;
+mod ff_guide;
 mod report;
 mod running;
 mod task_file;

@@ -1,9 +1,9 @@
 // What a run answers.
 use candidates::Candidate;
 use lama_num::Seq;
-use plain_search::Space;
 use sas_reader::SasFault;
 use sas_task::{Kept, Task};
+use search_log::{LimitHit, Log, Space};
 
 /// How a run ended: with a report, or for want of memory after the words were accepted.
 #[derive(Debug, Drop)]
@@ -34,11 +34,15 @@ pub struct EntryEnd {
     pub outcome: Outcome,
 }
 
-/// How an entry ended: with a plan, or with the whole space, which has no goal.
+/// How an entry ended, with the log of its search.
 #[derive(Debug, Drop)]
 pub enum Outcome {
-    Over,
-    Unsolvable { space: Space },
+    /// With its plan.
+    Over { log: Log },
+    /// No plan exists: these states are all that can be reached, and none is a goal.
+    Unsolvable { space: Space, log: Log },
+    /// The search reached a limit.
+    Limit { hit: LimitHit, log: Log },
 }
 
 /// Why a run ended.

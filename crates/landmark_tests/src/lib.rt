@@ -7,3 +7,5 @@ mod answers;
 mod graphs;
 #[cfg(test)]
 mod gripper;
+#[cfg(test)]
+mod random;

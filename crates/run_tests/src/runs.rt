@@ -11,9 +11,9 @@ use test_tasks::{
     at_the_goal, cut_short, door, no_operator, rivals, swap, three_places, two_layers, wide_derived,
 };
 
-/// The text of the plan of one jump: 33 bytes.
-fn jump() -> &'static str {
-    "(jump)\n; cost = 5 (general cost)\n"
+/// The text of the plan of two steps: 40 bytes.
+fn two_steps() -> &'static str {
+    "(go01)\n(go12)\n; cost = 2 (general cost)\n"
 }
 
 /// Whether a run on a task ends so, and leaves this plan and the task.
@@ -38,7 +38,7 @@ fn is_solved(alloc: Global, task: &str, plan: &str) -> Result<bool, NoMemory> {
 #[test]
 fn tasks_are_solved(rt: HostRuntime) -> Result<(), Fail> {
     let alloc = rt.alloc();
-    assert!(rt; jump().len() == 33 && is_solved(alloc, three_places(), jump())?);
+    assert!(rt; two_steps().len() == 40 && is_solved(alloc, three_places(), two_steps())?);
     assert!(rt; is_solved(alloc, two_layers(), "(flip)\n; cost = 1 (unit cost)\n")?);
     assert!(rt; is_solved(alloc, swap(), "(swap)\n; cost = 1 (unit cost)\n")?);
     assert!(rt; is_solved(alloc, door(), "(walk)\n(shut)\n; cost = 2 (unit cost)\n")?);
@@ -69,8 +69,8 @@ fn report_on(alloc: Global, task: &str) -> Result<Report, NoMemory> {
 fn states_of(ends: &[EntryEnd]) -> Option<u32> {
     match ends {
         [end] => match &end.outcome {
-            Outcome::Unsolvable { space } => Some(space.len()),
-            Outcome::Over => None,
+            Outcome::Unsolvable { space, .. } => Some(space.len()),
+            Outcome::Over { .. } | Outcome::Limit { .. } => None,
         },
         _ => None,
     }
@@ -100,7 +100,9 @@ fn is_own_plan(report: &Report) -> bool {
 /// Whether the one entry began at this moment, and was over.
 fn is_over(ends: &[EntryEnd], began: u64) -> bool {
     match ends {
-        [end] => end.entry == 1 && end.began == began && matches!(&end.outcome, Outcome::Over),
+        [end] => end.entry == 1
+            && end.began == began
+            && matches!(&end.outcome, Outcome::Over { .. }),
         _ => false,
     }
 }
@@ -123,7 +125,7 @@ fn tells_of_space(alloc: Global, task: &str, states: u32) -> Result<bool, NoMemo
 #[test]
 fn reports_tell_what_happened(rt: HostRuntime) -> Result<(), Fail> {
     let alloc = rt.alloc();
-    assert!(rt; tells_of_plan(alloc, three_places(), &[2], 5)?);
+    assert!(rt; tells_of_plan(alloc, three_places(), &[0, 1], 2)?);
     assert!(rt; tells_of_plan(alloc, door(), &[0, 1], 2)?);
     assert!(rt; tells_of_plan(alloc, at_the_goal(), &[], 0)?);
     assert!(rt; tells_of_space(alloc, no_operator(), 1)?);
@@ -136,7 +138,7 @@ fn is_fault(alloc: Global, call: HostCall) -> Result<bool, NoMemory> {
     let mut host = folder(alloc, Some(three_places()), Some(call))?;
     let report = report_of(alloc, &["t.sas"], &mut host)?;
     let told = report.code == 35 && report.why == Why::Fault;
-    Ok(told && !has(&host, "sas_plan", Some(jump())))
+    Ok(told && !has(&host, "sas_plan", Some(two_steps())))
 }
 
 #[test]

@@ -4,6 +4,7 @@ ghost use Rattle.std.specs.Prelude.{IsTrue};
 ghost use Rattle.search_log.specs.Phases.{IsSetting};
 
 use crate::ff_guide::FfGuide;
+use guide::Blind;
 use host_mem::MemClock;
 use lazy_search::{SearchEnd, search};
 use sas_task::{CostKind, Task};
@@ -91,4 +92,16 @@ pub fn searched(
 ) -> Result<End, Fail> {
     let mut clock = MemClock::new(Vec::new(rt.alloc()));
     searched_by(rt, task, setting, &mut clock)
+}
+
+/// The end of a search whose guide says nothing.
+pub fn blind(
+    rt: &(impl Abort + AllocGlobal),
+    task: &Task,
+    setting: &Setting,
+) -> Result<End, Fail> {
+    assert!(rt; may_be(setting));
+    let mut clock = MemClock::new(Vec::new(rt.alloc()));
+    let end = search(rt.alloc(), task, setting, &mut Blind, &mut clock);
+    Ok(plain(&end))
 }

@@ -6,6 +6,8 @@ mod ends;
 #[cfg(test)]
 mod ff_guide;
 #[cfg(test)]
+mod random;
+#[cfg(test)]
 mod rows;
 #[cfg(test)]
 mod texts;

@@ -29,4 +29,4 @@ returns-clause-solved g c =
     c.end-code.ensures past kept.stands (runs_offered times.began c.args.cost)
     ∙ ap (λ s. code_of s (begins_at turn times.began ∷ offers turn (Some c.args.cost) ∷ ends_as turn Over false ∷ [])) (c.in-Ok.ensures.setting ∙ c.requires.setting) in
     rw (c.from.ensures, c.in-Ok.ensures.kept, c.from-in-Ok.ensures, c.in-Ok.ensures.candidates, c.new-kept.ensures.items, c.new-candidates.ensures.items, c.in_ok-ends.ensures)
-    (solved_by_plan c.args.task.now times c.args.ops c.args.cost _ c.requires.plan c.requires.time code)
+    (solved_by_plan c.args.task.now times c.args.ops c.args.cost _ c.args.log c.requires.found c.requires.time code)

@@ -1,4 +1,4 @@
-use Rattle.std.proofs.Common.{◌≡◌, ◌≢◌, ◌∙◌, IfOk}
+use Rattle.std.proofs.Common.{◌≢◌, ◌∙◌, IfOk}
 use Rattle.driver_run.specs.declared.report.Report.{Report}
 use Rattle.driver_run.specs.declared.report.Why.TheVariants.{Fault}
 use Rattle.driver_run.specs.Entries.{IsRunReport, AsksFrom}

@@ -1,8 +1,7 @@
-use Rattle.std.proofs.Common.{◌≡◌, ◌≢◌, ℕ, Some, []}
+use Rattle.std.proofs.Common.{◌≢◌, []}
 use Rattle.std.specs.FinMap.{get}
 use Rattle.driver_run.specs.declared.report.Report.{Report}
 use Rattle.driver_run.specs.declared.report.Why.TheVariants.{Fault}
-use Rattle.driver_run.specs.Entries.{IsEntryReport, AsksOnce}
 use Rattle.driver_run.specs.Leaves.{LeavesPlans}
 use Rattle.driver_run.specs.Reports.{TellsTask}
 use Rattle.lama_host.specs.Steps.{Leaves}
