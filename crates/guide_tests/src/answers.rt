@@ -1,0 +1,94 @@
+// What a guide says along a path, as plain numbers.
+ghost use Rattle.std.specs.Prelude.{◌≡◌, length, IfOk, OnOk};
+ghost use Rattle.sas_task.specs.States.{IsState};
+ghost use Rattle.guide.specs.Operators.{applicable_operators};
+ghost use Rattle.phase_guide.specs.Guides.{IsFor};
+
+use conf_text::read;
+use guide::{Guide, Seen};
+use lama_num::NoMemory;
+use phase_guide::PhaseGuide;
+use sas_task::Task;
+use state_step::Stepper;
+use std::alloc::{AllocError, Global};
+use std::process::Abort;
+use std::test::Fail;
+use succ_gen::Tree;
+
+/// Between the estimates and the preferred operators of a state, and behind them.
+pub const AND: u32 = 99;
+
+fn applicable(alloc: Global, task: &Task, state: &[u32]) -> Result<Vec<u32>, NoMemory>
+    requires { length state.now ≡ length task.now.variables }
+    ensures { IfOk result (λ ops. ops.items ≡ applicable_operators task.now state.now) }
+{
+    let mut tree = Tree::new(alloc, task)?;
+    let mut ops = Vec::with_capacity(alloc, task.parts().operators.len())?;
+    tree.applicable_into(task, state, &mut ops);
+    Ok(ops)
+}
+
+fn push_all(answers: &mut Vec<u32>, more: &[u32]) -> Result<(), AllocError> {
+    for number in more {
+        answers.push(*number)?;
+    }
+    answers.push(AND)?;
+    Ok(())
+}
+
+// Whether the state is dead, its three estimates, and the preferred operators.
+fn push_answer(answers: &mut Vec<u32>, seen: &Seen) -> Result<(), AllocError> {
+    answers.push(seen.dead as u32)?;
+    push_all(answers, &seen.estimates)?;
+    push_all(answers, &seen.preferred)
+}
+
+fn visit(
+    guide: &mut PhaseGuide,
+    alloc: Global,
+    task: &Task,
+    parent: Option<u32>,
+    id: u32,
+    state: &[u32],
+    answers: &mut Vec<u32>,
+) -> Result<(), NoMemory>
+    requires task { IsFor guide.old task.now }
+    requires state { IsState task.now.variables state.now }
+    ensures { OnOk result (IsFor guide.new task.now) }
+{
+    let applicable = applicable(alloc, task, state)?;
+    let mut seen = Seen::new(alloc);
+    guide.visit(alloc, task, parent, id, state, &applicable, &mut seen)?;
+    push_answer(answers, &seen)?;
+    Ok(())
+}
+
+/// What the guide of the first phase of a configuration says of the initial state, and then of the
+/// state after an operator.
+pub fn answers(
+    rt: &(impl Abort + AllocGlobal),
+    task: &Task,
+    config: &str,
+    op: u32,
+) -> Result<Vec<u32>, Fail> {
+    let alloc = rt.alloc();
+    let Ok(config) = read(alloc, config) else {
+        return Err(Fail::from("refused"));
+    };
+    let Some(phase) = config.phases.as_slice().first() else {
+        return Err(Fail::from("no phase"));
+    };
+    let mut guide = phase_guide::guide(alloc, task, phase)?;
+    let mut stepper = Stepper::new(alloc, task)?;
+    let count = task.parts().variables.len();
+    let mut state = vec![in alloc; 0; count]?;
+    let mut next = vec![in alloc; 0; count]?;
+    let mut answers = Vec::new(alloc);
+    stepper.initial(task, &mut state);
+    visit(&mut guide, alloc, task, None, 0, &state, &mut answers)?;
+    assert!(rt; (op as usize) < task.parts().operators.len());
+    assert!(rt; stepper.applicable(task, &state, op));
+    stepper.apply_into(task, &state, op, &mut next);
+    visit(&mut guide, alloc, task, Some(0), 1, &next, &mut answers)?;
+    Ok(answers)
+}

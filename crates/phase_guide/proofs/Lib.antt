@@ -1,0 +1,6 @@
+pub mod Answering
+pub mod Few
+pub mod Sides
+pub mod Sublists
+pub mod Telling
+pub mod Unions

@@ -1,0 +1,130 @@
+// What a phase takes from the relaxation.
+ghost use Rattle.std.specs.Prelude.{◌≡◌, [], IfSome, IfNone, ◌⊎◌, if◌then◌else◌};
+ghost use Rattle.lama_num.specs.declared.estimates.Estimate.{Estimate as TheEstimate};
+ghost use Rattle.sas_task.specs.declared.contents.CostKind.{CostKind as TheKind};
+ghost use Rattle.sas_task.specs.States.{IsState};
+ghost use Rattle.relaxed_task.specs.Reached.{IsDead};
+ghost use Rattle.relaxed_task.specs.Relaxations.{IsRelaxed};
+ghost use Rattle.h_add.specs.Values.{IsValueOfGoals};
+ghost use Rattle.phase_guide.specs.Relaxings.{IsRelaxingFor, HasBoth, Tells};
+ghost use Rattle.phase_guide.specs.Relaxings.{relaxes as does_relax, plans as does_plan};
+ghost use Rattle.phase_guide.specs.Relaxings.{helpful_of};
+
+use h_add::Add;
+use h_ff::Ff;
+use lama_num::Estimate;
+use sas_task::Task;
+
+/// The additive estimate and that of FF, of a state that isn't dead; 0 where it isn't asked for.
+#[derive(Clone, Copy, Debug)]
+pub(crate) struct RelaxedCosts {
+    pub add: u32,
+    pub ff: u32,
+}
+
+/// What a phase takes from the relaxation.
+#[derive(Drop)]
+pub(crate) enum Relaxing {
+    Nothing,
+    Additive(Add),
+    /// FF shows the additive estimate of the same state, so that one evaluation serves both.
+    Planning(Ff),
+}
+
+fn both(add: Estimate, ff: Estimate) -> Option<RelaxedCosts>
+    ensures alive { IfSome result (λ costs.
+        (add ≡ TheEstimate.Finite costs.add) × (ff ≡ TheEstimate.Finite costs.ff)) }
+    ensures dead { IfNone result ((add ≡ TheEstimate.Infinite) ⊎ (ff ≡ TheEstimate.Infinite)) }
+{
+    match (add, ff) {
+        (Estimate::Finite(add), Estimate::Finite(ff)) => Some(RelaxedCosts { add, ff }),
+        (Estimate::Infinite, _) => None,
+        (_, Estimate::Infinite) => None,
+    }
+}
+
+fn evaluate_add(add: &mut Add, task: &Task, state: &[u32]) -> Option<RelaxedCosts>
+    requires { IsState task.now.variables state.now }
+    ensures relaxed { add.new.relaxed ≡ add.old.relaxed }
+    ensures value { (kind : TheKind) → IsRelaxed task.now kind add.old.relaxed →
+        IfSome result (λ costs.
+        IsValueOfGoals task.now kind state.now (TheEstimate.Finite costs.add)) }
+    ensures alive { (kind : TheKind) → IsRelaxed task.now kind add.old.relaxed →
+        IfSome result (λ costs. IsDead task.now state.now → ⊥) }
+    ensures dead { (kind : TheKind) → IsRelaxed task.now kind add.old.relaxed →
+        IfNone result (IsDead task.now state.now) }
+{
+    both(add.evaluate_goal(state), Estimate::Finite(0))
+}
+
+fn evaluate_ff(ff: &mut Ff, task: &Task, state: &[u32]) -> Option<RelaxedCosts>
+    requires { IsState task.now.variables state.now }
+    ensures relaxed { ff.new.relaxed ≡ ff.old.relaxed }
+    ensures kind { ff.new.kind ≡ ff.old.kind }
+    ensures alive { IsRelaxed task.now ff.old.kind ff.old.relaxed →
+        IfSome result (HasBoth task.now state.now ff.new) }
+    ensures dead { IsRelaxed task.now ff.old.kind ff.old.relaxed →
+        IfNone result (IsDead task.now state.now) }
+{
+    let value = ff.evaluate(task, state);
+    both(ff.additive().goal_value(), value)
+}
+
+impl Relaxing {
+    /// Evaluates a state. None where it is dead.
+    pub(crate) fn evaluate(&mut self, task: &Task, state: &[u32]) -> Option<RelaxedCosts>
+        requires { IsState task.now.variables state.now }
+        ensures made { (kind : TheKind) → IsRelaxingFor task.now kind self.old →
+            IsRelaxingFor task.now kind self.new }
+        ensures relaxes { does_relax self.new ≡ does_relax self.old }
+        ensures plans { does_plan self.new ≡ does_plan self.old }
+        ensures tells { (kind : TheKind) → IsRelaxingFor task.now kind self.old →
+            Tells task.now kind state.now self.new result }
+    {
+        match self {
+            Relaxing::Nothing => Some(RelaxedCosts { add: 0, ff: 0 }),
+            Relaxing::Additive(add) => evaluate_add(add, task, state),
+            Relaxing::Planning(ff) => evaluate_ff(ff, task, state),
+        }
+    }
+
+    /// Whether it finds dead states and the additive estimate.
+    pub(crate) fn relaxes(&self) -> bool
+        ensures { result ≡ does_relax self.now }
+    {
+        match self {
+            Relaxing::Nothing => false,
+            Relaxing::Additive(_) => true,
+            Relaxing::Planning(_) => true,
+        }
+    }
+
+    /// Whether it finds relaxed plans.
+    pub(crate) fn plans(&self) -> bool
+        ensures { result ≡ does_plan self.now }
+    {
+        match self {
+            Relaxing::Nothing => false,
+            Relaxing::Additive(_) => false,
+            Relaxing::Planning(_) => true,
+        }
+    }
+
+    /// The applicable operators of the relaxed plan that was found last.
+    fn helpful(&self) -> &[u32]
+        ensures { result.now ≡ helpful_of self.now }
+    {
+        match self {
+            Relaxing::Nothing => &[],
+            Relaxing::Additive(_) => &[],
+            Relaxing::Planning(ff) => ff.preferred(),
+        }
+    }
+
+    /// The applicable operators of the relaxed plan that was found last, if they are wanted.
+    pub(crate) fn helpful_if(&self, wanted: bool) -> &[u32]
+        ensures { result.now ≡ (if wanted then helpful_of self.now else []) }
+    {
+        if wanted { self.helpful() } else { &[] }
+    }
+}
