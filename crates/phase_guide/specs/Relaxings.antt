@@ -6,7 +6,6 @@ use Rattle.sas_task.specs.declared.contents.Parts.{Parts}
 use Rattle.relaxed_task.specs.Reached.{IsDead}
 use Rattle.relaxed_task.specs.Relaxations.{IsRelaxed}
 use Rattle.h_add.specs.Values.{IsValueOfGoals}
-use Rattle.h_ff.specs.Ready.{Planner}
 use Rattle.h_ff.specs.RelaxedPlans.{HasPlan}
 use Rattle.conf_text.specs.Grammar.{has_guide}
 use Rattle.conf_text.specs.declared.config.GuideKind.TheVariants.{Ff}
@@ -52,11 +51,6 @@ pub record Serves (parts : Parts) (phase : Phase) (relaxing : Relaxing) : Type 0
   pub made : IsRelaxingFor parts phase.estimate relaxing
   pub relaxing_is : is_relaxing phase ≡ relaxes relaxing
   pub planning : has_guide phase.guides Ff ≡ true → plans relaxing ≡ true
-
--- the additive estimate, and a relaxed plan with what it costs
-pub record HasBoth (parts : Parts) (state : List ℕ) (ff : Planner) (costs : RelaxedCosts) : Type 0 where
-  pub add : IsValueOfGoals parts ff.kind state (Finite costs.add)
-  pub plan : HasPlan parts ff.kind state costs.ff ff.plan ff.preferred
 
 -- The state isn't dead, as far as that is found, and has these costs. What is helpful of the relaxed plan is some of the applicable
 -- operators, in their order.

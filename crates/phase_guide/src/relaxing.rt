@@ -3,12 +3,11 @@ ghost use Rattle.std.specs.Prelude.{◌≡◌, [], IfSome, IfNone, ◌⊎◌, if
 ghost use Rattle.lama_num.specs.declared.estimates.Estimate.{Estimate as TheEstimate};
 ghost use Rattle.sas_task.specs.declared.contents.CostKind.{CostKind as TheKind};
 ghost use Rattle.sas_task.specs.States.{IsState};
-ghost use Rattle.relaxed_task.specs.Reached.{IsDead};
 ghost use Rattle.relaxed_task.specs.Relaxations.{IsRelaxed};
-ghost use Rattle.h_add.specs.Values.{IsValueOfGoals};
-ghost use Rattle.phase_guide.specs.Relaxings.{IsRelaxingFor, HasBoth, Tells};
+ghost use Rattle.phase_guide.specs.Relaxings.{IsRelaxingFor, Tells};
 ghost use Rattle.phase_guide.specs.Relaxings.{relaxes as does_relax, plans as does_plan};
 ghost use Rattle.phase_guide.specs.Relaxings.{helpful_of};
+ghost use Rattle.phase_guide.specs.declared.relaxing.Relaxing.{Relaxing as TheRelaxing};
 
 use h_add::Add;
 use h_ff::Ff;
@@ -46,13 +45,8 @@ fn both(add: Estimate, ff: Estimate) -> Option<RelaxedCosts>
 fn evaluate_add(add: &mut Add, task: &Task, state: &[u32]) -> Option<RelaxedCosts>
     requires { IsState task.now.variables state.now }
     ensures relaxed { add.new.relaxed ≡ add.old.relaxed }
-    ensures value { (kind : TheKind) → IsRelaxed task.now kind add.old.relaxed →
-        IfSome result (λ costs.
-        IsValueOfGoals task.now kind state.now (TheEstimate.Finite costs.add)) }
-    ensures alive { (kind : TheKind) → IsRelaxed task.now kind add.old.relaxed →
-        IfSome result (λ costs. IsDead task.now state.now → ⊥) }
-    ensures dead { (kind : TheKind) → IsRelaxed task.now kind add.old.relaxed →
-        IfNone result (IsDead task.now state.now) }
+    ensures tells { (kind : TheKind) → IsRelaxed task.now kind add.old.relaxed →
+        Tells task.now kind state.now (TheRelaxing.Additive add.new) result }
 {
     both(add.evaluate_goal(state), Estimate::Finite(0))
 }
@@ -61,10 +55,8 @@ fn evaluate_ff(ff: &mut Ff, task: &Task, state: &[u32]) -> Option<RelaxedCosts>
     requires { IsState task.now.variables state.now }
     ensures relaxed { ff.new.relaxed ≡ ff.old.relaxed }
     ensures kind { ff.new.kind ≡ ff.old.kind }
-    ensures alive { IsRelaxed task.now ff.old.kind ff.old.relaxed →
-        IfSome result (HasBoth task.now state.now ff.new) }
-    ensures dead { IsRelaxed task.now ff.old.kind ff.old.relaxed →
-        IfNone result (IsDead task.now state.now) }
+    ensures tells { IsRelaxed task.now ff.old.kind ff.old.relaxed →
+        Tells task.now ff.old.kind state.now (TheRelaxing.Planning ff.new) result }
 {
     let value = ff.evaluate(task, state);
     both(ff.additive().goal_value(), value)
