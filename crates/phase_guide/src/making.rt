@@ -1,15 +1,14 @@
 // Making the guide of a phase.
-ghost use Rattle.std.specs.Prelude.{◌≡◌, true, IfOk, map};
+ghost use Rattle.std.specs.Prelude.{◌≡◌, true, IsTrue, IfOk};
 ghost use Rattle.conf_text.specs.Accepted.{IsPhase};
 ghost use Rattle.conf_text.specs.Grammar.{has_guide};
-ghost use Rattle.lm_status.specs.Estimates.{weight_of};
+ghost use Rattle.conf_text.specs.declared.config.GuideKind.{GuideKind as TheGuide};
 ghost use Rattle.phase_guide.specs.Guides.{IsFor};
-ghost use Rattle.phase_guide.specs.Kinds.{is_relaxing as relaxing_test};
 ghost use Rattle.phase_guide.specs.Landmarks.{IsLandmarkGraph, AreLandmarksFor};
-ghost use Rattle.phase_guide.specs.Relaxings.{IsRelaxingFor, relaxes, plans, Serves};
+ghost use Rattle.phase_guide.specs.Relaxings.{IsRelaxingFor, Serves};
 
 use crate::guiding::PhaseGuide;
-use crate::kinds::{copy, has, is_relaxing, is_same_cost};
+use crate::kinds::{copy, has, is_same_cost};
 use crate::relaxing::Relaxing;
 use conf_text::{GuideKind, Phase};
 use h_add::Add;
@@ -45,8 +44,49 @@ fn tracks_for(alloc: Global, task: &Task, phase: &Phase) -> Result<Tracks, NoMem
     Tracks::new(alloc, status)
 }
 
+/// Whether a phase that goes by landmarks follows one that does.
+fn has_landmarks(phase: &Phase, had: &Phase) -> bool
+    ensures { IsTrue result → has_guide phase.now.guides TheGuide.Lm ≡ true →
+        has_guide had.now.guides TheGuide.Lm ≡ true }
+{
+    !has(&phase.guides, GuideKind::Lm) || has(&had.guides, GuideKind::Lm)
+}
+
+/// The rows of a phase's landmarks, by those of the phase before where they serve.
+fn tracks_after(
+    alloc: Global,
+    task: &Task,
+    phase: &Phase,
+    had: &Phase,
+    mut tracks: Tracks,
+) -> Result<Tracks, NoMemory>
+    requires kind { had.now.estimate ≡ phase.now.estimate }
+    requires landmarks { AreLandmarksFor task.now had.now tracks.status }
+    ensures { IfOk result (λ tracks. AreLandmarksFor task.now phase.now tracks.status) }
+{
+    if has_landmarks(phase, had) {
+        tracks.clear();
+        Ok(tracks)
+    } else {
+        tracks_for(alloc, task, phase)
+    }
+}
+
+/// What a phase takes from the relaxation.
+fn new_relaxing(alloc: Global, task: &Task, phase: &Phase) -> Result<Relaxing, NoMemory>
+    ensures { IfOk result (Serves task.now phase.now) }
+{
+    if has(&phase.guides, GuideKind::Ff) {
+        Ok(Relaxing::Planning(Ff::new(alloc, task, phase.estimate)?))
+    } else if has(&phase.guides, GuideKind::Add) {
+        Ok(Relaxing::Additive(Add::new(alloc, task, phase.estimate)?))
+    } else {
+        Ok(Relaxing::Nothing)
+    }
+}
+
 /// What a phase takes from the relaxation: what there is, where that serves.
-fn relaxing_for(
+fn relaxing_after(
     alloc: Global,
     task: &Task,
     phase: &Phase,
@@ -55,16 +95,29 @@ fn relaxing_for(
     requires { IsRelaxingFor task.now phase.now.estimate last }
     ensures { IfOk result (Serves task.now phase.now) }
 {
-    let by_ff = has(&phase.guides, GuideKind::Ff);
-    if !is_relaxing(phase) {
-        Ok(Relaxing::Nothing)
-    } else if last.plans() || (last.relaxes() && !by_ff) {
+    if last.is_enough(phase) {
         Ok(last)
-    } else if by_ff {
-        Ok(Relaxing::Planning(Ff::new(alloc, task, phase.estimate)?))
     } else {
-        Ok(Relaxing::Additive(Add::new(alloc, task, phase.estimate)?))
+        new_relaxing(alloc, task, phase)
     }
+}
+
+/// The guide by what it goes by.
+fn assemble(
+    alloc: Global,
+    phase: &Phase,
+    relaxing: Relaxing,
+    tracks: Tracks,
+) -> Result<PhaseGuide, NoMemory>
+    requires { IsPhase phase.now }
+    ensures { IfOk result (λ guide.
+        guide ≡ (record { phase = phase.now; relaxing = relaxing; tracks = tracks })) }
+{
+    Ok(PhaseGuide {
+        phase: copy(alloc, phase)?,
+        relaxing,
+        tracks,
+    })
 }
 
 /// The guide of a phase of a task: the estimates of the phase's guides, in their order, and the
@@ -78,13 +131,9 @@ pub fn guide(alloc: Global, task: &Task, phase: &Phase) -> Result<PhaseGuide, No
     ensures phase { IfOk result (λ guide. guide.phase ≡ phase.now) }
     ensures task { IfOk result (λ guide. IsFor guide task.now) }
 {
-    let relaxing = relaxing_for(alloc, task, phase, Relaxing::Nothing)?;
+    let relaxing = new_relaxing(alloc, task, phase)?;
     let tracks = tracks_for(alloc, task, phase)?;
-    Ok(PhaseGuide {
-        phase: copy(alloc, phase)?,
-        relaxing,
-        tracks,
-    })
+    assemble(alloc, phase, relaxing, tracks)
 }
 
 /// The guide of a phase that follows another one. It takes over what the guide of that phase goes
@@ -100,23 +149,15 @@ pub fn guide_after(
     ensures phase { IfOk result (λ guide. guide.phase ≡ phase.now) }
     ensures task { IfOk result (λ guide. IsFor guide task.now) }
 {
+    if !is_same_cost(last.phase.estimate, phase.estimate) {
+        return guide(alloc, task, phase);
+    }
     let PhaseGuide {
         phase: had,
         relaxing,
-        mut tracks,
-    } = last;
-    if !is_same_cost(had.estimate, phase.estimate) {
-        return guide(alloc, task, phase);
-    }
-    let relaxing = relaxing_for(alloc, task, phase, relaxing)?;
-    if has(&had.guides, GuideKind::Lm) || !has(&phase.guides, GuideKind::Lm) {
-        tracks.clear();
-    } else {
-        tracks = tracks_for(alloc, task, phase)?;
-    }
-    Ok(PhaseGuide {
-        phase: copy(alloc, phase)?,
-        relaxing,
         tracks,
-    })
+    } = last;
+    let relaxing = relaxing_after(alloc, task, phase, relaxing)?;
+    let tracks = tracks_after(alloc, task, phase, &had, tracks)?;
+    assemble(alloc, phase, relaxing, tracks)
 }

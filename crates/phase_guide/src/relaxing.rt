@@ -1,14 +1,20 @@
 // What a phase takes from the relaxation.
-ghost use Rattle.std.specs.Prelude.{◌≡◌, [], IfSome, IfNone, ◌⊎◌, if◌then◌else◌};
+ghost use Rattle.std.specs.Prelude.{◌≡◌, [], true, IsTrue, IfSome, IfNone, ◌⊎◌};
+ghost use Rattle.std.specs.Prelude.{if◌then◌else◌};
 ghost use Rattle.lama_num.specs.declared.estimates.Estimate.{Estimate as TheEstimate};
 ghost use Rattle.sas_task.specs.declared.contents.CostKind.{CostKind as TheKind};
 ghost use Rattle.sas_task.specs.States.{IsState};
 ghost use Rattle.relaxed_task.specs.Relaxations.{IsRelaxed};
+ghost use Rattle.conf_text.specs.Grammar.{has_guide};
+ghost use Rattle.conf_text.specs.declared.config.GuideKind.{GuideKind as TheGuide};
+ghost use Rattle.phase_guide.specs.Kinds.{is_relaxing as relaxing_test};
 ghost use Rattle.phase_guide.specs.Relaxings.{IsRelaxingFor, Tells};
 ghost use Rattle.phase_guide.specs.Relaxings.{relaxes as does_relax, plans as does_plan};
 ghost use Rattle.phase_guide.specs.Relaxings.{helpful_of};
 ghost use Rattle.phase_guide.specs.declared.relaxing.Relaxing.{Relaxing as TheRelaxing};
 
+use crate::kinds::{has, is_relaxing};
+use conf_text::{GuideKind, Phase};
 use h_add::Add;
 use h_ff::Ff;
 use lama_num::Estimate;
@@ -80,25 +86,16 @@ impl Relaxing {
         }
     }
 
-    /// Whether it finds dead states and the additive estimate.
-    pub(crate) fn relaxes(&self) -> bool
-        ensures { result ≡ does_relax self.now }
+    /// Whether a phase needs nothing else. FF serves for the additive estimate too.
+    pub(crate) fn is_enough(&self, phase: &Phase) -> bool
+        ensures relaxing { IsTrue result → relaxing_test phase.now ≡ does_relax self.now }
+        ensures planning { IsTrue result → has_guide phase.now.guides TheGuide.Ff ≡ true →
+            does_plan self.now ≡ true }
     {
         match self {
-            Relaxing::Nothing => false,
-            Relaxing::Additive(_) => true,
-            Relaxing::Planning(_) => true,
-        }
-    }
-
-    /// Whether it finds relaxed plans.
-    pub(crate) fn plans(&self) -> bool
-        ensures { result ≡ does_plan self.now }
-    {
-        match self {
-            Relaxing::Nothing => false,
-            Relaxing::Additive(_) => false,
-            Relaxing::Planning(_) => true,
+            Relaxing::Nothing => !is_relaxing(phase),
+            Relaxing::Additive(_) => is_relaxing(phase) && !has(&phase.guides, GuideKind::Ff),
+            Relaxing::Planning(_) => is_relaxing(phase),
         }
     }
 
