@@ -12,4 +12,4 @@ mod preferring;
 mod relaxing;
 
 pub use guiding::PhaseGuide;
-pub use making::{guide, guide_after};
+pub use making::guide;

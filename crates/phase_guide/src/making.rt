@@ -1,5 +1,5 @@
 // Making the guide of a phase.
-ghost use Rattle.std.specs.Prelude.{◌≡◌, true, IsTrue, IfOk};
+ghost use Rattle.std.specs.Prelude.{◌≡◌, true, IsTrue, IfOk, OnOk};
 ghost use Rattle.conf_text.specs.Accepted.{IsPhase};
 ghost use Rattle.conf_text.specs.Grammar.{has_guide};
 ghost use Rattle.conf_text.specs.declared.config.GuideKind.{GuideKind as TheGuide};
@@ -44,34 +44,6 @@ fn tracks_for(alloc: Global, task: &Task, phase: &Phase) -> Result<Tracks, NoMem
     Tracks::new(alloc, status)
 }
 
-/// Whether a phase that goes by landmarks follows one that does.
-fn has_landmarks(phase: &Phase, had: &Phase) -> bool
-    ensures { IsTrue result → has_guide phase.now.guides TheGuide.Lm ≡ true →
-        has_guide had.now.guides TheGuide.Lm ≡ true }
-{
-    !has(&phase.guides, GuideKind::Lm) || has(&had.guides, GuideKind::Lm)
-}
-
-/// The rows of a phase's landmarks, by those of the phase before where they serve.
-fn tracks_after(
-    alloc: Global,
-    task: &Task,
-    phase: &Phase,
-    had: &Phase,
-    mut tracks: Tracks,
-) -> Result<Tracks, NoMemory>
-    requires kind { had.now.estimate ≡ phase.now.estimate }
-    requires landmarks { AreLandmarksFor task.now had.now tracks.status }
-    ensures { IfOk result (λ tracks. AreLandmarksFor task.now phase.now tracks.status) }
-{
-    if has_landmarks(phase, had) {
-        tracks.clear();
-        Ok(tracks)
-    } else {
-        tracks_for(alloc, task, phase)
-    }
-}
-
 /// What a phase takes from the relaxation.
 fn new_relaxing(alloc: Global, task: &Task, phase: &Phase) -> Result<Relaxing, NoMemory>
     ensures { IfOk result (Serves task.now phase.now) }
@@ -85,39 +57,50 @@ fn new_relaxing(alloc: Global, task: &Task, phase: &Phase) -> Result<Relaxing, N
     }
 }
 
-/// What a phase takes from the relaxation: what there is, where that serves.
-fn relaxing_after(
+/// Whether the rows of the phase before serve a phase.
+fn are_enough(phase: &Phase, had: &Phase) -> bool
+    ensures kind { IsTrue result → had.now.estimate ≡ phase.now.estimate }
+    ensures landmarks { IsTrue result → has_guide phase.now.guides TheGuide.Lm ≡ true →
+        has_guide had.now.guides TheGuide.Lm ≡ true }
+{
+    is_same_cost(had.estimate, phase.estimate)
+        && (!has(&phase.guides, GuideKind::Lm) || has(&had.guides, GuideKind::Lm))
+}
+
+/// Makes the rows of the phase before those of a phase.
+fn renew_tracks(
     alloc: Global,
     task: &Task,
     phase: &Phase,
-    last: Relaxing,
-) -> Result<Relaxing, NoMemory>
-    requires { IsRelaxingFor task.now phase.now.estimate last }
-    ensures { IfOk result (Serves task.now phase.now) }
+    had: &Phase,
+    tracks: &mut Tracks,
+) -> Result<(), NoMemory>
+    requires { AreLandmarksFor task.now had.now tracks.old.status }
+    ensures { OnOk result (AreLandmarksFor task.now phase.now tracks.new.status) }
 {
-    if last.is_enough(phase) {
-        Ok(last)
+    if are_enough(phase, had) {
+        tracks.clear();
     } else {
-        new_relaxing(alloc, task, phase)
+        *tracks = tracks_for(alloc, task, phase)?;
     }
+    Ok(())
 }
 
-/// The guide by what it goes by.
-fn assemble(
+/// Makes what the phase before took from the relaxation what a phase takes.
+fn renew_relaxing(
     alloc: Global,
+    task: &Task,
     phase: &Phase,
-    relaxing: Relaxing,
-    tracks: Tracks,
-) -> Result<PhaseGuide, NoMemory>
-    requires { IsPhase phase.now }
-    ensures { IfOk result (λ guide.
-        guide ≡ (record { phase = phase.now; relaxing = relaxing; tracks = tracks })) }
+    had: &Phase,
+    relaxing: &mut Relaxing,
+) -> Result<(), NoMemory>
+    requires { IsRelaxingFor task.now had.now.estimate relaxing.old }
+    ensures { OnOk result (Serves task.now phase.now relaxing.new) }
 {
-    Ok(PhaseGuide {
-        phase: copy(alloc, phase)?,
-        relaxing,
-        tracks,
-    })
+    if !is_same_cost(had.estimate, phase.estimate) || !relaxing.is_enough(phase) {
+        *relaxing = new_relaxing(alloc, task, phase)?;
+    }
+    Ok(())
 }
 
 /// The guide of a phase of a task: the estimates of the phase's guides, in their order, and the
@@ -131,33 +114,31 @@ pub fn guide(alloc: Global, task: &Task, phase: &Phase) -> Result<PhaseGuide, No
     ensures phase { IfOk result (λ guide. guide.phase ≡ phase.now) }
     ensures task { IfOk result (λ guide. IsFor guide task.now) }
 {
-    let relaxing = new_relaxing(alloc, task, phase)?;
+    let phase_of_guide = copy(alloc, phase)?;
     let tracks = tracks_for(alloc, task, phase)?;
-    assemble(alloc, phase, relaxing, tracks)
-}
-
-/// The guide of a phase that follows another one. It takes over what the guide of that phase goes
-/// by, where estimates are by the same kind of cost.
-pub fn guide_after(
-    alloc: Global,
-    task: &Task,
-    phase: &Phase,
-    last: PhaseGuide,
-) -> Result<PhaseGuide, NoMemory>
-    requires phase { IsPhase phase.now }
-    requires task { IsFor last task.now }
-    ensures phase { IfOk result (λ guide. guide.phase ≡ phase.now) }
-    ensures task { IfOk result (λ guide. IsFor guide task.now) }
-{
-    if !is_same_cost(last.phase.estimate, phase.estimate) {
-        return guide(alloc, task, phase);
-    }
-    let PhaseGuide {
-        phase: had,
+    let relaxing = new_relaxing(alloc, task, phase)?;
+    Ok(PhaseGuide {
+        phase: phase_of_guide,
         relaxing,
         tracks,
-    } = last;
-    let relaxing = relaxing_after(alloc, task, phase, relaxing)?;
-    let tracks = tracks_after(alloc, task, phase, &had, tracks)?;
-    assemble(alloc, phase, relaxing, tracks)
+    })
+}
+
+impl PhaseGuide {
+    /// Makes it the guide of another phase of its task. What it goes by stays, where estimates are
+    /// by the same kind of cost; nothing else is kept.
+    ///
+    /// After want of memory nothing is said of the guide.
+    pub fn turn_to(&mut self, alloc: Global, task: &Task, phase: &Phase) -> Result<(), NoMemory>
+        requires phase { IsPhase phase.now }
+        requires task { IsFor self.old task.now }
+        ensures phase { OnOk result (self.new.phase ≡ phase.now) }
+        ensures task { OnOk result (IsFor self.new task.now) }
+    {
+        let phase_of_guide = copy(alloc, phase)?;
+        renew_relaxing(alloc, task, phase, &self.phase, &mut self.relaxing)?;
+        renew_tracks(alloc, task, phase, &self.phase, &mut self.tracks)?;
+        self.phase = phase_of_guide;
+        Ok(())
+    }
 }
