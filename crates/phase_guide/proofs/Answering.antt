@@ -30,26 +30,34 @@ use Rattle.phase_guide.specs.Landmarks.{IsLandmarkGraph, AreLandmarksFor}
 use Rattle.phase_guide.specs.Relaxings.{IsAlive, IsRelaxingFor, Tells, relaxes, plans, plan_of, helpful_of}
 use Rattle.phase_guide.proofs.Unions.{any_of_two, among_if}
 
-pub on_ok : {A E : Type 0} (P Q : Type 0) (result : Result A E) → (P → Q) → OnOk result P → OnOk result Q
-on_ok P Q (Ok x) f p = f p
-on_ok P Q (Err e) f p = tt
+pub on_ok : {A E : Type 0} (P : Type 0) (result : Result A E) → P → OnOk result P
+on_ok P (Ok x) p = p
+on_ok P (Err e) p = tt
+
+pub on_ok_map : {A E : Type 0} (P Q : Type 0) (result : Result A E) → (P → Q) → OnOk result P → OnOk result Q
+on_ok_map P Q (Ok x) f p = f p
+on_ok_map P Q (Err e) f p = tt
 
 -- an answer by a row fits each path that the row stands for
-pub fits_along : (parts : Parts) (phase : Phase) (graph : Content) (row : List ℕ) (states : List (List ℕ)) (state : List ℕ) (seen : Seen) →
-    (has_guide phase.guides Lm ≡ true → IsLandmarkGraph parts graph) → StandsFor graph row states → last_of states ≡ state → Answers parts phase graph (has row) state seen → Fits parts phase graph states seen
-fits_along parts phase graph row states state seen landmarks stands last answers = record {
-  landmarks = landmarks;
-  answer = subst (λ (taken : ℕ → Bool). Answers parts phase graph taken (last_of states) seen) stands.same (subst (λ (s : List ℕ). Answers parts phase graph (has row) s seen) (sym last) answers);
+pub said_along : (parts : Parts) (phase : Phase) (status next : Charted) (row : List ℕ) (states : List (List ℕ)) (state : List ℕ) (seen : Seen) →
+    (has_guide phase.guides Lm ≡ true → IsLandmarkGraph parts status.graph) → next ≡ status → StandsFor status.graph row states → last_of states ≡ state →
+    Answers parts phase next.graph (has row) state seen → Fits parts phase next.graph states seen
+said_along parts phase status next row states state seen landmarks same stands last answers = record {
+  landmarks = subst (λ (s : Charted). has_guide phase.guides Lm ≡ true → IsLandmarkGraph parts s.graph) (sym same) landmarks;
+  answer = subst (λ (taken : ℕ → Bool). Answers parts phase next.graph taken (last_of states) seen) (subst (λ (s : Charted). has row ≡ accepted s.graph states) (sym same) stands.same)
+    (subst (λ (s : List ℕ). Answers parts phase next.graph (has row) s seen) (sym last) answers);
 }
 
 pub dead_is : (parts : Parts) (phase : Phase) (graph : Content) (taken : ℕ → Bool) (state : List ℕ) (seen : Seen) → Answers parts phase graph taken state seen → seen.dead ≡ true → IsDead parts state
 dead_is parts phase graph taken state seen (inl says) dead = says.is_dead
 dead_is parts phase graph taken state seen (inr says) dead = let k : false ≡ true = sym says.dead ∙ dead in absurd (cc)
 
-pub preferred_is : (parts : Parts) (phase : Phase) (graph : Content) (taken : ℕ → Bool) (state : List ℕ) (seen : Seen) → Answers parts phase graph taken state seen →
-    seen.preferred ≡ filter (is_among seen.preferred) (applicable_operators parts state)
-preferred_is parts phase graph taken state seen (inl says) = none_preferred seen.preferred (applicable_operators parts state) says.preferred
-preferred_is parts phase graph taken state seen (inr says) = kept_among (λ op. list_any (prefers parts graph taken state says.found op) phase.preferred) (applicable_operators parts state) seen.preferred says.preferred
+pub preferred_is : (parts : Parts) (phase : Phase) (graph : Content) (taken : ℕ → Bool) (state applicable : List ℕ) (seen : Seen) → applicable ≡ applicable_operators parts state → Answers parts phase graph taken state seen →
+    seen.preferred ≡ filter (is_among seen.preferred) applicable
+preferred_is parts phase graph taken state applicable seen all (inl says) = none_preferred seen.preferred applicable says.preferred
+preferred_is parts phase graph taken state applicable seen all (inr says) =
+    let test = λ (op : ℕ). list_any (prefers parts graph taken state says.found op) phase.preferred in
+    kept_among test applicable seen.preferred (says.preferred ∙ ap (λ (ops : List ℕ). filter test ops) (sym all))
 
 -- What was said of a state that isn't dead, in the terms of the code.
 pub record IsSaid (parts : Parts) (guide : Guiding) (state : List ℕ) (helpful : List ℕ) (values : Values) (seen : Seen) : Type 0 where

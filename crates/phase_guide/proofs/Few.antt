@@ -1,5 +1,5 @@
 -- There are three kinds of guides, so a list that has each once has at most so many.
-use Rattle.std.proofs.Common.{◌≡◌, ◌∙◌, sym, ap, refl, ℕ, ◌+◌, ◌≤◌, List, [], ◌∷◌, ◌++◌, length, Bool, true, false, cond, not, ◌&&◌, ◌||◌, arith}
+use Rattle.std.proofs.Common.{◌≡◌, ◌∙◌, sym, ap, subst, refl, ℕ, ◌+◌, ◌≤◌, List, [], ◌∷◌, ◌++◌, length, Bool, true, false, cond, not, ◌&&◌, ◌||◌, arith}
 use Rattle.conf_text.specs.Accepted.{each_once, IsPhase}
 use Rattle.conf_text.specs.Grammar.{has_guide, same_guide, every_guide}
 use Rattle.conf_text.specs.declared.config.GuideKind.{GuideKind}
@@ -62,6 +62,6 @@ once_few front (g ∷ gs) once = by_parts (once_few (front ++ g ∷ []) gs) (has
     by_parts few true is a rest = absurd (cc)
     by_parts few false is false rest = absurd (cc)
 
-pub has_few : (phase : Phase) → IsPhase phase → HasFew phase.guides
+pub has_few : (phase copy : Phase) → copy ≡ phase → IsPhase phase → HasFew copy.guides
 unfolding all_free free
-has_few phase is = record { some = is.some; few = once_few [] phase.guides is.guides }
+has_few phase copy same is = subst (λ (p : Phase). HasFew p.guides) (sym same) (record { some = is.some; few = once_few [] phase.guides is.guides })
