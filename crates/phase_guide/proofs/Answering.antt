@@ -92,7 +92,7 @@ says_alive parts guide state costs helpful lm seen for is said = record {
         (ap (λ (ops : List ℕ). is_among ops op) said.helpful_is ∙ among_if (has_guide guide.phase.preferred Ff) (helpful_of guide.relaxing) op)
         ∙ sym (any_of_two (prefers parts guide.tracks.status.graph (has guide.tracks.row) state found op) refl guide.phase.preferred)
 
-    same_test : (λ (op : ℕ). is_among helpful op || (has_guide guide.phase.preferred Lm && leads_on parts guide.tracks.status.graph (has guide.tracks.row) state op)) ≡ (λ (op : ℕ). list_any (prefers parts guide.tracks.status.graph (has guide.tracks.row) state found op) guide.phase.preferred)
+    same_test : ◌≡◌ {A = ℕ → Bool} (λ op. is_among helpful op || (has_guide guide.phase.preferred Lm && leads_on parts guide.tracks.status.graph (has guide.tracks.row) state op)) (λ op. list_any (prefers parts guide.tracks.status.graph (has guide.tracks.row) state found op) guide.phase.preferred)
     same_test = fun_ext one_test
 
 -- a guide that goes on is for the same task
@@ -120,3 +120,12 @@ pub says_found : (parts : Parts) (guide : Guiding) (state : List ℕ) (found : O
     Answers parts guide.phase guide.tracks.status.graph (has guide.tracks.row) state seen
 says_found parts guide state found costs helpful lm seen for tells some said =
     inr (says_alive parts guide state costs helpful lm seen for (subst (λ (f : Option RelaxedCosts). Tells parts guide.phase.estimate state guide.relaxing f) some tells) said)
+
+-- the helpful operators, if they are wanted, are some of the applicable ones
+pub helpful_within : (parts : Parts) (guide : Guiding) (state applicable : List ℕ) (found : Option RelaxedCosts) (costs : RelaxedCosts) (wanted : Bool) (helpful : List ℕ) →
+    Tells parts guide.phase.estimate state guide.relaxing found → found ≡ Some costs → applicable ≡ applicable_operators parts state →
+    helpful ≡ cond wanted (helpful_of guide.relaxing) [] → helpful ≡ filter (is_among helpful) applicable
+helpful_within parts guide state applicable found costs false helpful tells some all is = none_preferred helpful applicable is
+helpful_within parts guide state applicable found costs true helpful tells some all is =
+    let told : IsAlive parts guide.phase.estimate state guide.relaxing costs = subst (λ (f : Option RelaxedCosts). Tells parts guide.phase.estimate state guide.relaxing f) some tells in
+    subst (λ (ops : List ℕ). ops ≡ filter (is_among ops) applicable) (sym is) (told.helpful ∙ ap (λ (ops : List ℕ). filter (is_among (helpful_of guide.relaxing)) ops) (sym all))

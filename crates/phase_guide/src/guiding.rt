@@ -45,7 +45,6 @@ impl PhaseGuide {
     ghost use Rattle.phase_guide.specs.Guides.{IsFor};
 
     /// Says what was found of a state, whose row was made last.
-    #[tactic(none)]
     fn say(
         &self,
         alloc: Global,
@@ -112,7 +111,6 @@ impl Guide for PhaseGuide {
         0 < self.phase.preferred.len()
     }
 
-    #[tactic(none)]
     fn visit(
         &mut self,
         alloc: Global,
