@@ -1,5 +1,5 @@
 -- Answers by what was found and by a row are answers by the path that the row stands for.
-use Rattle.std.proofs.Common.{◌≡◌, ◌∙◌, sym, ap, subst, refl, ℕ, List, [], ◌∷◌, Bool, true, false, cond, filter, map, ◌&&◌, ◌||◌, ◌⊎◌, inl, inr, Option, Some, None, Result, Ok, Err, OnOk}
+use Rattle.std.proofs.Common.{◌≡◌, ◌∙◌, sym, ap, subst, refl, ℕ, List, [], ◌∷◌, Bool, true, false, cond, filter, map, ◌&&◌, ◌||◌, ◌⊎◌, ◌↔◌, inl, inr, Option, Some, None, Result, Ok, Err, OnOk}
 use Rattle.std.specs.List.{list_any}
 use Rattle.std.proofs.Math.Path.{fun_ext}
 use Rattle.std.proofs.lemmas.Bool.{or_left, or_right}
@@ -107,6 +107,13 @@ stays_for parts phase relaxing next tracks behind for made relax plan same = rec
   };
   landmarks = subst (λ (status : Charted). AreLandmarksFor parts phase status) (sym same) for.landmarks;
 }
+
+-- which answers fit goes by the phase and by the graph of landmarks, which stay
+pub fits_stay : (parts : Parts) (phase : Phase) (relaxing : Relaxing) (tracks behind : Tracked) (guide : Guiding) → record { phase = phase; relaxing = relaxing; tracks = tracks } ≡ guide → behind.status ≡ tracks.status →
+    (states : List (List ℕ)) (seen : Seen) → Fits parts phase behind.status.graph states seen ↔ Fits parts guide.phase guide.tracks.status.graph states seen
+fits_stay parts phase relaxing tracks behind guide view same states seen =
+    subst (λ (g : Guiding). Fits parts phase behind.status.graph states seen ↔ Fits parts g.phase g.tracks.status.graph states seen) view
+    (subst (λ (s : Charted). Fits parts phase s.graph states seen ↔ Fits parts phase tracks.status.graph states seen) (sym same) (λ f. f, λ f. f))
 
 -- what was found of a dead state, and what is said of it
 pub says_dead : (parts : Parts) (guide : Guiding) (state : List ℕ) (found : Option RelaxedCosts) (seen : Seen) → IsFor guide parts → Tells parts guide.phase.estimate state guide.relaxing found → found ≡ None →

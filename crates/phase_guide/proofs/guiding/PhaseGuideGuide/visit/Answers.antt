@@ -1,11 +1,11 @@
-use Rattle.std.proofs.Common.{◌≡◌, ◌∙◌, sym, ap, subst, refl, ℕ, List, [], ◌∷◌, ◌++◌, true, filter}
+use Rattle.std.proofs.Common.{◌≡◌, ◌↔◌, sym, subst, refl, [], ◌∷◌, ◌++◌, true, filter}
 use Rattle.relaxed_task.specs.Reached.{IsDead}
 use Rattle.lm_status.specs.Rows.{has}
 use Rattle.lm_tracks.specs.Tracks.{Keeps}
 use Rattle.guide.specs.Operators.{is_among}
 use Rattle.phase_guide.specs.Fits.{Answers, Fits, last_more}
 use Rattle.phase_guide.specs.Guides.{Guiding, IsFor}
-use Rattle.phase_guide.proofs.Answering.{on_ok, on_ok_map, stays_for, said_along, dead_is, preferred_is}
+use Rattle.phase_guide.proofs.Answering.{on_ok, on_ok_map, stays_for, said_along, fits_stay, dead_is, preferred_is}
 use Rattle.phase_guide.proofs.guiding.PhaseGuideGuide.visit.Goals as goal
 
 pub say-requires-clause-task : goal.say-requires-clause-task
@@ -53,6 +53,11 @@ returns-clause-answer_fits c p states is keeps =
     (said_along c.args.task.now c.self.inside.phase c.self.inside.tracks.status c.advance.new.self.status c.advance.new.self.row (states ++ c.args.state.now ∷ []) c.args.state.now c.say.new.out for.landmarks.graph c.in_ok-advance.ensures.status
     (c.in_ok-advance.ensures.next p states is (subst (λ (g : Guiding). Keeps g.tracks p states) (sym c.self.view_is) keeps)) (last_more states c.args.state.now))
     c.say.ensures
+
+pub returns-clause-fits_stay : goal.returns-clause-fits_stay
+returns-clause-fits_stay c parts states seen =
+    on_ok (Fits parts c.self.inside.phase c.advance.new.self.status.graph states seen ↔ Fits parts c.args.self.now.phase c.args.self.now.tracks.status.graph states seen) c.say.result
+    (fits_stay parts c.self.inside.phase c.self.inside.relaxing c.self.inside.tracks c.advance.new.self c.args.self.now c.self.view_is c.in_ok-advance.ensures.status states seen)
 
 pub returns-clause-dead : goal.returns-clause-dead
 returns-clause-dead c =
