@@ -1,9 +1,8 @@
 -- Answers by what was found and by a row are answers by the path that the row stands for.
-use Rattle.std.proofs.Common.{◌≡◌, ◌∙◌, sym, ap, subst, refl, ℕ, List, [], ◌∷◌, Bool, true, false, cond, filter, map, ◌&&◌, ◌||◌, ◌⊎◌, ◌↔◌, inl, inr, Option, Some, None, Result, Ok, Err, OnOk}
+use Rattle.std.proofs.Common.{◌≡◌, ◌∙◌, sym, ap, subst, refl, ℕ, List, [], ◌∷◌, Bool, true, false, cond, filter, map, ◌&&◌, ◌||◌, ◌↔◌, inl, inr, Option, Some, None, Result, Ok, Err, OnOk}
 use Rattle.std.specs.List.{list_any}
 use Rattle.std.proofs.Math.Path.{fun_ext}
-use Rattle.std.proofs.lemmas.Bool.{or_left, or_right}
-use Rattle.lama_num.specs.declared.estimates.Estimate.TheVariants.{Finite}
+use Rattle.std.proofs.lemmas.Bool.{or_left}
 use Rattle.sas_task.specs.declared.contents.Parts.{Parts}
 use Rattle.relaxed_task.specs.Reached.{IsDead}
 use Rattle.conf_text.specs.Grammar.{has_guide}
@@ -12,7 +11,7 @@ use Rattle.conf_text.specs.declared.config.GuideKind.TheVariants.{Add, Ff, Lm}
 use Rattle.conf_text.specs.declared.config.Phase.{Phase}
 use Rattle.lm_graph.specs.Graphs.{Content}
 use Rattle.lm_status.specs.Accepted.{accepted}
-use Rattle.lm_status.specs.Estimates.{landmark_estimate, weight_of}
+use Rattle.lm_status.specs.Estimates.{landmark_estimate}
 use Rattle.lm_status.specs.Preferred.{leads_on}
 use Rattle.lm_status.specs.Rows.{has, StandsFor}
 use Rattle.guide.specs.declared.seen.Seen.{Seen}
@@ -23,9 +22,9 @@ use Rattle.phase_guide.specs.declared.relaxing.RelaxedCosts.{RelaxedCosts}
 use Rattle.phase_guide.specs.declared.relaxing.Relaxing.{Relaxing}
 use Rattle.lm_tracks.specs.Tracks.{Tracked}
 use Rattle.lm_status.specs.Statuses.{Charted}
-use Rattle.phase_guide.specs.Fits.{Answers, SaysAlive, SaysDead, Fits, Found, Finds, prefers, last_of}
+use Rattle.phase_guide.specs.Fits.{Answers, SaysAlive, Fits, Found, Finds, prefers, last_of}
 use Rattle.phase_guide.specs.Guides.{Guiding, IsFor}
-use Rattle.phase_guide.specs.Kinds.{is_relaxing, three_of, value_of}
+use Rattle.phase_guide.specs.Kinds.{three_of, value_of}
 use Rattle.phase_guide.specs.Landmarks.{IsLandmarkGraph, AreLandmarksFor}
 use Rattle.phase_guide.specs.Relaxings.{IsAlive, IsRelaxingFor, Tells, relaxes, plans, plan_of, helpful_of}
 use Rattle.phase_guide.proofs.Unions.{any_of_two, among_if}
@@ -45,7 +44,7 @@ pub said_along : (parts : Parts) (phase : Phase) (status next : Charted) (row : 
 said_along parts phase status next row states state seen landmarks same stands last answers = record {
   landmarks = subst (λ (s : Charted). has_guide phase.guides Lm ≡ true → IsLandmarkGraph parts s.graph) (sym same) landmarks;
   answer = subst (λ (taken : ℕ → Bool). Answers parts phase next.graph taken (last_of states) seen) (subst (λ (s : Charted). has row ≡ accepted s.graph states) (sym same) stands.same)
-    (subst (λ (s : List ℕ). Answers parts phase next.graph (has row) s seen) (sym last) answers);
+      (subst (λ (s : List ℕ). Answers parts phase next.graph (has row) s seen) (sym last) answers);
 }
 
 pub dead_is : (parts : Parts) (phase : Phase) (graph : Content) (taken : ℕ → Bool) (state : List ℕ) (seen : Seen) → Answers parts phase graph taken state seen → seen.dead ≡ true → IsDead parts state

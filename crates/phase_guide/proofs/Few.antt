@@ -1,5 +1,5 @@
 -- There are three kinds of guides, so a list that has each once has at most so many.
-use Rattle.std.proofs.Common.{◌≡◌, ◌∙◌, sym, ap, subst, refl, ℕ, ◌+◌, ◌≤◌, List, [], ◌∷◌, ◌++◌, length, Bool, true, false, cond, not, ◌&&◌, ◌||◌, arith}
+use Rattle.std.proofs.Common.{◌≡◌, ◌∙◌, sym, ap, subst, refl, ℕ, ◌+◌, ◌≤◌, List, [], ◌∷◌, ◌++◌, length, Bool, true, false, not, ◌&&◌, ◌||◌, arith}
 use Rattle.conf_text.specs.Accepted.{each_once, IsPhase}
 use Rattle.conf_text.specs.Grammar.{has_guide, same_guide, every_guide}
 use Rattle.conf_text.specs.declared.config.GuideKind.{GuideKind}

@@ -1,5 +1,5 @@
 -- What a phase takes over from the one before.
-use Rattle.std.proofs.Common.{◌≡◌, ◌∙◌, sym, ap, subst, true, List, ℕ, map}
+use Rattle.std.proofs.Common.{◌≡◌, ◌∙◌, sym, ap, subst, true, map}
 use Rattle.sas_task.specs.declared.contents.CostKind.{CostKind}
 use Rattle.sas_task.specs.declared.contents.Parts.{Parts}
 use Rattle.conf_text.specs.Grammar.{has_guide}

@@ -1,5 +1,5 @@
 -- What evaluators answer is what is told of a state.
-use Rattle.std.proofs.Common.{◌≡◌, sym, subst, refl, ℕ, List, [], true, false, filter, ◌⊎◌, ◌↔◌, inl, inr, Option, Some, None, IfSome, IfNone, length}
+use Rattle.std.proofs.Common.{◌≡◌, sym, subst, refl, ℕ, List, [], filter, ◌⊎◌, ◌↔◌, inl, inr, Option, Some, None, IfSome, IfNone, length}
 use Rattle.lama_num.specs.Lists.{list_all_get}
 use Rattle.lama_num.specs.declared.estimates.Estimate.{Estimate}
 use Rattle.lama_num.specs.declared.estimates.Estimate.TheVariants.{Finite, Infinite}

@@ -1,5 +1,5 @@
 -- Operators that some preferred guide prefers.
-use Rattle.std.proofs.Common.{◌≡◌, ◌∙◌, sym, ap, refl, ℕ, List, [], ◌∷◌, Bool, true, false, cond, ◌&&◌, ◌||◌}
+use Rattle.std.proofs.Common.{◌≡◌, ◌∙◌, ap, refl, ℕ, List, [], ◌∷◌, Bool, true, false, cond, ◌&&◌, ◌||◌}
 use Rattle.std.specs.List.{list_any}
 use Rattle.conf_text.specs.Grammar.{has_guide}
 use Rattle.conf_text.specs.declared.config.GuideKind.{GuideKind}

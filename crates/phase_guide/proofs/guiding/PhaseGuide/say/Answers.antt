@@ -1,4 +1,4 @@
-use Rattle.std.proofs.Common.{◌≡◌, ◌∙◌, sym, ap, subst, ℕ, List, [], Bool, cond, map, filter, ◌||◌, ◌&&◌}
+use Rattle.std.proofs.Common.{◌∙◌, sym, ap, subst, ℕ, List, [], Bool, cond, map, filter, ◌||◌, ◌&&◌}
 use Rattle.conf_text.specs.Grammar.{has_guide}
 use Rattle.conf_text.specs.declared.config.GuideKind.{GuideKind}
 use Rattle.conf_text.specs.declared.config.GuideKind.TheVariants.{Ff, Lm}
@@ -36,6 +36,6 @@ returns c =
       dead = c.tell-2.ensures.dead;
       estimates = c.tell-2.ensures.estimates ∙ (c.estimates.ensures ∙ ap (λ (gs : List GuideKind). three_of (map (value_of (record { add = c.in-Some.costs.add; ff = c.in-Some.costs.ff; lm = c.estimate.result })) gs)) c.deref-3.ensures);
       preferred = c.tell-2.ensures.preferred ∙ (c.in_ok-prefer_into.ensures
-        ∙ (ap (λ (b : Bool). filter (λ op. is_among c.helpful_if-helpful.result.now op || (b && leads_on c.args.task.now c.self.inside.tracks.status.graph (has c.self.inside.tracks.row) c.args.state.now op)) c.args.applicable.now) (c.has-by_lm.ensures ∙ ap (λ (gs : List GuideKind). has_guide gs Lm) c.deref-2.ensures)
-        ∙ ap (λ (ops : List ℕ). filter (λ op. is_among c.helpful_if-helpful.result.now op || (has_guide c.self.inside.phase.preferred Lm && leads_on c.args.task.now c.self.inside.tracks.status.graph (has c.self.inside.tracks.row) c.args.state.now op)) ops) c.requires.applicable));
+          ∙ (ap (λ (b : Bool). filter (λ op. is_among c.helpful_if-helpful.result.now op || (b && leads_on c.args.task.now c.self.inside.tracks.status.graph (has c.self.inside.tracks.row) c.args.state.now op)) c.args.applicable.now) (c.has-by_lm.ensures ∙ ap (λ (gs : List GuideKind). has_guide gs Lm) c.deref-2.ensures)
+          ∙ ap (λ (ops : List ℕ). filter (λ op. is_among c.helpful_if-helpful.result.now op || (has_guide c.self.inside.phase.preferred Lm && leads_on c.args.task.now c.self.inside.tracks.status.graph (has c.self.inside.tracks.row) c.args.state.now op)) ops) c.requires.applicable));
     }))
