@@ -2,12 +2,14 @@
 ghost use Rattle.std.specs.Prelude.{◌≡◌, length, IfOk, OnOk};
 ghost use Rattle.sas_task.specs.States.{IsState};
 ghost use Rattle.guide.specs.Operators.{applicable_operators};
+ghost use Rattle.conf_text.specs.Accepted.{IsPhase};
 ghost use Rattle.phase_guide.specs.Guides.{IsFor};
+ghost use Rattle.state_step.specs.Stepper.{IsFor as IsStepper};
 
-use conf_text::read;
+use conf_text::{Phase, read};
 use guide::{Guide, Seen};
 use lama_num::NoMemory;
-use phase_guide::PhaseGuide;
+use phase_guide::{PhaseGuide, guide};
 use sas_task::Task;
 use state_step::Stepper;
 use std::alloc::{AllocError, Global};
@@ -22,8 +24,8 @@ fn applicable(alloc: Global, task: &Task, state: &[u32]) -> Result<Vec<u32>, NoM
     requires { length state.now ≡ length task.now.variables }
     ensures { IfOk result (λ ops. ops.items ≡ applicable_operators task.now state.now) }
 {
-    let mut tree = Tree::new(alloc, task)?;
     let mut ops = Vec::with_capacity(alloc, task.parts().operators.len())?;
+    let mut tree = Tree::new(alloc, task)?;
     tree.applicable_into(task, state, &mut ops);
     Ok(ops)
 }
@@ -63,6 +65,55 @@ fn visit(
     Ok(())
 }
 
+// What a guide says of the initial state, and then of the state after an operator.
+fn answers_along(
+    rt: &(impl Abort + AllocGlobal),
+    guide: &mut PhaseGuide,
+    stepper: &mut Stepper,
+    task: &Task,
+    op: u32,
+) -> Result<Vec<u32>, Fail>
+    requires guide { IsFor guide.old task.now }
+    requires stepper { IsStepper stepper.old task.now }
+{
+    let alloc = rt.alloc();
+    let count = task.parts().variables.len();
+    let mut state = vec![in alloc; 0; count]?;
+    let mut next = vec![in alloc; 0; count]?;
+    let mut answers = Vec::new(alloc);
+    stepper.initial(task, &mut state);
+    visit(guide, alloc, task, None, 0, &state, &mut answers)?;
+    assert!(rt; (op as usize) < task.parts().operators.len());
+    assert!(rt; stepper.applicable(task, &state, op));
+    stepper.apply_into(task, &state, op, &mut next);
+    visit(guide, alloc, task, Some(0), 1, &next, &mut answers)?;
+    Ok(answers)
+}
+
+fn answers_by(
+    rt: &(impl Abort + AllocGlobal),
+    guide: &mut PhaseGuide,
+    task: &Task,
+    op: u32,
+) -> Result<Vec<u32>, Fail>
+    requires { IsFor guide.old task.now }
+{
+    let mut stepper = Stepper::new(rt.alloc(), task)?;
+    answers_along(rt, guide, &mut stepper, task, op)
+}
+
+fn answers_of(
+    rt: &(impl Abort + AllocGlobal),
+    task: &Task,
+    phase: &Phase,
+    op: u32,
+) -> Result<Vec<u32>, Fail>
+    requires { IsPhase phase.now }
+{
+    let mut guide = guide(rt.alloc(), task, phase)?;
+    answers_by(rt, &mut guide, task, op)
+}
+
 /// What the guide of the first phase of a configuration says of the initial state, and then of the
 /// state after an operator.
 pub fn answers(
@@ -71,24 +122,11 @@ pub fn answers(
     config: &str,
     op: u32,
 ) -> Result<Vec<u32>, Fail> {
-    let alloc = rt.alloc();
-    let Ok(config) = read(alloc, config) else {
+    let Ok(config) = read(rt.alloc(), config) else {
         return Err(Fail::from("refused"));
     };
-    let Some(phase) = config.phases.as_slice().first() else {
-        return Err(Fail::from("no phase"));
-    };
-    let mut guide = phase_guide::guide(alloc, task, phase)?;
-    let mut stepper = Stepper::new(alloc, task)?;
-    let count = task.parts().variables.len();
-    let mut state = vec![in alloc; 0; count]?;
-    let mut next = vec![in alloc; 0; count]?;
-    let mut answers = Vec::new(alloc);
-    stepper.initial(task, &mut state);
-    visit(&mut guide, alloc, task, None, 0, &state, &mut answers)?;
-    assert!(rt; (op as usize) < task.parts().operators.len());
-    assert!(rt; stepper.applicable(task, &state, op));
-    stepper.apply_into(task, &state, op, &mut next);
-    visit(&mut guide, alloc, task, Some(0), 1, &next, &mut answers)?;
-    Ok(answers)
+    match config.phases.as_slice().first() {
+        Some(phase) => answers_of(rt, task, phase, op),
+        None => Err(Fail::from("no phase")),
+    }
 }
