@@ -111,7 +111,9 @@ fn answers_of(
     requires { IsPhase phase.now }
 {
     let mut guide = guide(rt.alloc(), task, phase)?;
-    answers_by(rt, &mut guide, task, op)
+    let answers = answers_by(rt, &mut guide, task, op);
+    guide.release();
+    answers
 }
 
 /// What the guide of the first phase of a configuration says of the initial state, and then of the
