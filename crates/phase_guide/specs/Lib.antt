@@ -1,0 +1,5 @@
+pub mod Fits
+pub mod Guides
+pub mod Kinds
+pub mod Landmarks
+pub mod Relaxings
