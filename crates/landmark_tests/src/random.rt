@@ -50,7 +50,9 @@ fn all_hold_on_the_way(
 fn are_landmarks(alloc: Global, task: &Task) -> Result<bool, NoMemory> {
     let graph = landmarks(alloc, task)?;
     for one in reached(alloc, task)? {
-        if is_goal(task, &one.state) && !all_hold_on_the_way(alloc, task, graph.nodes(), &one.ops)? {
+        if is_goal(task, &one.state)
+            && !all_hold_on_the_way(alloc, task, graph.nodes(), &one.ops)?
+        {
             return Ok(false);
         }
     }

@@ -76,12 +76,7 @@ fn take(
     Ok(())
 }
 
-fn expand(
-    alloc: Global,
-    task: &Task,
-    found: &mut Vec<Found>,
-    at: usize,
-) -> Result<(), NoMemory> {
+fn expand(alloc: Global, task: &Task, found: &mut Vec<Found>, at: usize) -> Result<(), NoMemory> {
     for op in 0..task.parts().operators.len() {
         take(alloc, task, found, at, op as u32)?;
     }

@@ -15,10 +15,23 @@ use std::test::Fail;
 /// The end of a search, with the number of its pops.
 #[derive(Clone, Copy, Debug, PartialEq, Eq)]
 pub enum End {
-    Plan { cost: u64, steps: usize, pops: usize },
-    Unsolvable { states: u32, pops: usize },
-    Unsolved { states: u32, pops: usize },
-    Limit { hit: LimitHit, pops: usize },
+    Plan {
+        cost: u64,
+        steps: usize,
+        pops: usize,
+    },
+    Unsolvable {
+        states: u32,
+        pops: usize,
+    },
+    Unsolved {
+        states: u32,
+        pops: usize,
+    },
+    Limit {
+        hit: LimitHit,
+        pops: usize,
+    },
     NoMemory,
 }
 
@@ -95,11 +108,7 @@ pub fn searched(
 }
 
 /// The end of a search whose guide says nothing.
-pub fn blind(
-    rt: &(impl Abort + AllocGlobal),
-    task: &Task,
-    setting: &Setting,
-) -> Result<End, Fail> {
+pub fn blind(rt: &(impl Abort + AllocGlobal), task: &Task, setting: &Setting) -> Result<End, Fail> {
     assert!(rt; may_be(setting));
     let mut clock = MemClock::new(Vec::new(rt.alloc()));
     let end = search(rt.alloc(), task, setting, &mut Blind, &mut clock);

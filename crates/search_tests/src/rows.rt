@@ -33,10 +33,18 @@ fn small_tasks_are_solved(rt: HostRuntime) -> Result<(), Fail> {
     let end = End::Unsolvable { states: 1, pops: 0 };
     assert!(rt; searched(&rt, &alone, &greedy())? == end);
     let door = task(rt.alloc(), door())?;
-    let end = End::Plan { cost: 2, steps: 2, pops: 2 };
+    let end = End::Plan {
+        cost: 2,
+        steps: 2,
+        pops: 2,
+    };
     assert!(rt; searched(&rt, &door, &greedy())? == end);
     let swap = task(rt.alloc(), swap())?;
-    let end = End::Plan { cost: 1, steps: 1, pops: 1 };
+    let end = End::Plan {
+        cost: 1,
+        steps: 1,
+        pops: 1,
+    };
     assert!(rt; searched(&rt, &swap, &greedy())? == end);
     Ok(())
 }
@@ -64,11 +72,22 @@ fn time_is_over_at_its_moment(rt: HostRuntime) -> Result<(), Fail> {
     let _start = clock.now();
     let _began = clock.now();
     let mut setting = greedy();
-    setting.stop = Some(Stop { start: 0, limit: 1000 });
-    let plan = End::Plan { cost: 2, steps: 2, pops: 2 };
+    setting.stop = Some(Stop {
+        start: 0,
+        limit: 1000,
+    });
+    let plan = End::Plan {
+        cost: 2,
+        steps: 2,
+        pops: 2,
+    };
     assert!(rt; searched_by(&rt, &places, &setting, &mut clock)? == plan);
     assert!(rt; searched_by(&rt, &places, &setting, &mut clock)? == plan);
-    let hit = LimitHit::Time { start: 0, limit: 1000, moment: 1000 };
+    let hit = LimitHit::Time {
+        start: 0,
+        limit: 1000,
+        moment: 1000,
+    };
     assert!(rt; searched_by(&rt, &places, &setting, &mut clock)? == End::Limit { hit, pops: 0 });
     Ok(())
 }
