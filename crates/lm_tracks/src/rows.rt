@@ -1,5 +1,6 @@
 // Rows of one length, one after the other in one vector.
-ghost use Rattle.std.specs.Prelude.{◌≡◌, ◌+◌, ◌*◌, ◌<◌, ◌≤◌, ℕ, length, IfSome, IfNone, OnOk, vec_len};
+ghost use Rattle.std.specs.Prelude.{◌≡◌, ◌+◌, ◌*◌, ◌<◌, ◌≤◌, ℕ, length, OnOk, vec_len};
+ghost use Rattle.std.specs.Prelude.{IfSome, IfNone};
 ghost use Rattle.lm_tracks.specs.Rows.{row_in, IsThere, Stores};
 
 use std::alloc::AllocError;

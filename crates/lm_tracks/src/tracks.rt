@@ -85,8 +85,8 @@ impl Tracks {
         self.rows.clear();
     }
 
-    /// Makes the row of a state and keeps it for the state's number: that of the path to its parent,
-    /// which goes on by the state. What was kept for the number before is replaced.
+    /// Makes the row of a state and keeps it for the state's number: that of the path to its
+    /// parent, which goes on by the state. What was kept for the number before is replaced.
     ///
     /// After want of memory nothing is said of what is kept.
     pub fn advance(

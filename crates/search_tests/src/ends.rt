@@ -1,5 +1,5 @@
-// What becomes of searches, in plain numbers, by functions that promise nothing, so that the proof of
-// a test has nothing to carry.
+// What becomes of searches, in plain numbers, by functions that promise nothing, so that the proof
+// of a test has nothing to carry.
 ghost use Rattle.std.specs.Prelude.{IsTrue};
 ghost use Rattle.search_log.specs.Phases.{IsSetting};
 

@@ -8,8 +8,8 @@ use search_log::{LimitHit, Stop};
 use std::test::Fail;
 use test_tasks::{door, no_operator, rivals, swap, task, three_places};
 
-/// Two goals that destroy each other: six pops and nothing is left; fewer are a limit, and the third
-/// finds no room for a third state.
+/// Two goals that destroy each other: six pops and nothing is left; fewer are a limit, and the
+/// third finds no room for a third state.
 #[test]
 fn rivals_end_by_their_limits(rt: HostRuntime) -> Result<(), Fail> {
     let rivals = task(rt.alloc(), rivals())?;
@@ -49,8 +49,8 @@ fn small_tasks_are_solved(rt: HostRuntime) -> Result<(), Fail> {
     Ok(())
 }
 
-/// The real cost of a state rises as it is visited again at fewer steps, so that the fourth pop goes
-/// past the bound.
+/// The real cost of a state rises as it is visited again at fewer steps, so that the fourth pop
+/// goes past the bound.
 #[test]
 fn a_risen_cost_is_known_by_the_bound(rt: HostRuntime) -> Result<(), Fail> {
     let risen = task(rt.alloc(), risen_cost())?;
@@ -63,8 +63,8 @@ fn a_risen_cost_is_known_by_the_bound(rt: HostRuntime) -> Result<(), Fail> {
     Ok(())
 }
 
-/// The clock answers 0 twice, then a phase that begins at 10 and one at 20 find plans, and one at 1000
-/// is over before its first visit.
+/// The clock answers 0 twice, then a phase that begins at 10 and one at 20 find plans, and one at
+/// 1000 is over before its first visit.
 #[test]
 fn time_is_over_at_its_moment(rt: HostRuntime) -> Result<(), Fail> {
     let places = task(rt.alloc(), three_places())?;
