@@ -331,9 +331,11 @@ pub fn search<G: Guide, C: Clock>(
 ) -> SearchEnd
     requires setting { IsSetting setting.now }
     requires same_task { G.is_for guide.old task.now }
-    ensures end { EndHolds (phase_by task.now setting.now (G.guides guide.old) (G.preferring guide.old))
+    ensures end { EndHolds
+        (phase_by task.now setting.now (G.guides guide.old) (G.preferring guide.old))
         (G.fits guide.old task.now) result }
-    ensures clock { ClockHolds (phase_by task.now setting.now (G.guides guide.old) (G.preferring guide.old))
+    ensures clock { ClockHolds
+        (phase_by task.now setting.now (G.guides guide.old) (G.preferring guide.old))
         (C.answers clock.old) (C.answers clock.new) result }
     ensures moment { IsBetween (C.last clock.old) (C.last clock.new) (moment_by result) }
     ensures later { C.last clock.old ≤ C.last clock.new }
