@@ -1,6 +1,6 @@
 // A guide that gives FF and prefers no operators.
 ghost use Rattle.std.specs.Prelude.{◌≡◌, IfOk, [], false};
-ghost use Rattle.relaxed_task.specs.Facts.{IsRelaxed};
+ghost use Rattle.relaxed_task.specs.Relaxations.{IsRelaxed};
 
 use guide::{Guide, Seen};
 use h_ff::Ff;
@@ -25,7 +25,7 @@ impl FfGuide {
 
 impl Guide for FfGuide {
     ghost use Rattle.std.specs.Prelude.{false};
-    ghost use Rattle.relaxed_task.specs.Facts.{IsRelaxed};
+    ghost use Rattle.relaxed_task.specs.Relaxations.{IsRelaxed};
 
     ghost guides = { λ _. 1 };
 
