@@ -1,0 +1,101 @@
+// States of so many words that are looked for.
+ghost use Rattle.std.specs.Prelude.{◌≡◌, vec_len};
+
+use crate::failure::Failure;
+use lama_num::{NoMemory, Seq};
+use packed_state::Layout;
+use sas_task::{Parts, Task, check};
+use state_registry::{Interned, Registry};
+use std::alloc::{AllocError, Global};
+use test_tasks::variable;
+
+/// Visited states, and room for the words of one.
+#[derive(Drop)]
+struct States {
+    registry: Registry,
+    words: Vec<u64>,
+    ghost wide: { vec_len words ≡ registry.layout.words },
+}
+
+/// How many states were new, and how many were known.
+#[derive(Clone, Copy, Debug)]
+pub struct Looked {
+    pub new: u64,
+    pub known: u64,
+}
+
+/// As many variables of two values as there are bits in so many words.
+fn bits(alloc: Global, words: u32) -> Result<Parts, AllocError> {
+    let mut variables = Seq::new(alloc);
+    let mut init = Seq::new(alloc);
+    for _ in 0..words.saturating_mul(64) {
+        variables.push(variable(alloc, None, 2)?)?;
+        init.push(0)?;
+    }
+    Ok(Parts {
+        metric: false,
+        variables,
+        groups: Seq::new(alloc),
+        init,
+        goal: Seq::new(alloc),
+        operators: Seq::new(alloc),
+        rules: Seq::new(alloc),
+    })
+}
+
+/// Words that no other number gives.
+fn write(words: &mut [u64], number: u64) {
+    let mut scattered = number;
+    for word in words.iter_mut() {
+        scattered = scattered.wrapping_mul(0x9e37_79b9_7f4a_7c15);
+        *word = scattered;
+    }
+}
+
+impl States {
+    fn new(alloc: Global, task: &Task, most: u32) -> Result<States, NoMemory> {
+        let layout = Layout::new(alloc, task)?;
+        let words = vec![in alloc; 0; layout.words()]?;
+        let registry = Registry::new(alloc, layout, most)?;
+        Ok(States { registry, words })
+    }
+
+    fn look_for(&mut self, number: u64) -> Result<Interned, NoMemory> {
+        write(&mut self.words, number);
+        self.registry.intern(&self.words)
+    }
+}
+
+fn count(looked: Looked, interned: Interned) -> Looked {
+    match interned {
+        Interned::New(_) => Looked {
+            new: looked.new.wrapping_add(1),
+            known: looked.known,
+        },
+        Interned::Known(_) => Looked {
+            new: looked.new,
+            known: looked.known.wrapping_add(1),
+        },
+        Interned::Full => looked,
+    }
+}
+
+/// Looks once for each of so many states, in a scattered order.
+fn look(states: &mut States, looked: Looked, most: u32) -> Result<Looked, NoMemory> {
+    let mut looked = looked;
+    for place in 0..most {
+        let number = u64::from(place).wrapping_mul(2_654_435_761) % u64::from(most);
+        looked = count(looked, states.look_for(number)?);
+    }
+    Ok(looked)
+}
+
+/// Looks three times for each of so many states of so many words.
+pub fn look_three_times(alloc: Global, words: u32, most: u32) -> Result<Looked, Failure> {
+    let task = check(bits(alloc, words)?)?;
+    let mut states = States::new(alloc, &task, most)?;
+    let none = Looked { new: 0, known: 0 };
+    let first = look(&mut states, none, most)?;
+    let second = look(&mut states, first, most)?;
+    Ok(look(&mut states, second, most)?)
+}

@@ -1,0 +1,111 @@
+// Walks through the states of a delivery task.
+ghost use Rattle.std.specs.Prelude.{◌≡◌, ◌≤◌, IfOk, IfSome, IsTrue};
+ghost use Rattle.std.specs.List.{Contains};
+ghost use Rattle.state_step.specs.Steps.{is_applicable};
+ghost use Rattle.succ_gen.specs.Trees.{applicable};
+ghost use Rattle.search_bench.specs.Walks.{IsWalk};
+
+use crate::failure::Failure;
+use lama_num::NoMemory;
+use sas_task::Task;
+use state_step::Stepper;
+use std::alloc::Global;
+use std::mem::swap;
+use succ_gen::Tree;
+use task_gen::generate;
+
+/// The state that a walk is in, with room for the next one and for the applicable operators.
+#[derive(Drop)]
+pub struct Walk {
+    pub tree: Tree,
+    pub stepper: Stepper,
+    pub here: Vec<u32>,
+    pub next: Vec<u32>,
+    pub applicable: Vec<u32>,
+}
+
+/// One of the operators, where there are any.
+fn chosen(operators: &[u32], number: u32) -> Option<u32>
+    ensures { IfSome result (λ op. Contains operators.now op) }
+{
+    if operators.is_empty() {
+        return None;
+    }
+    Some(operators[number as usize % operators.len()])
+}
+
+impl Walk {
+    /// A walk that begins in the initial state.
+    fn new(alloc: Global, task: &Task) -> Result<Walk, NoMemory>
+        ensures { IfOk result (λ walk. IsWalk walk task.now) }
+    {
+        let variables = task.parts().variables.len();
+        let mut here = vec![in alloc; 0; variables]?;
+        let next = vec![in alloc; 0; variables]?;
+        let applicable = Vec::with_capacity(alloc, task.parts().operators.len())?;
+        let tree = Tree::new(alloc, task)?;
+        let mut stepper = Stepper::new(alloc, task)?;
+        stepper.initial(task, &mut here);
+        Ok(Walk {
+            tree,
+            stepper,
+            here,
+            next,
+            applicable,
+        })
+    }
+
+    /// Finds the applicable operators.
+    fn look(&mut self, task: &Task)
+        requires { IsWalk self.old task.now }
+        ensures ready { IsWalk self.new task.now }
+        ensures found { self.new.applicable.items ≡ applicable task.now self.new.here.items }
+    {
+        self.tree
+            .applicable_into(task, &self.here, &mut self.applicable);
+    }
+
+    /// Goes on by an applicable operator.
+    fn go_on(&mut self, task: &Task, op: u32)
+        requires ready { IsWalk self.old task.now }
+        requires applicable { IsTrue (is_applicable task.now self.old.here.items op) }
+        ensures { IsWalk self.new task.now }
+    {
+        self.stepper
+            .apply_into(task, &self.here, op, &mut self.next);
+        swap(&mut self.here, &mut self.next);
+    }
+
+    /// A step by one of the applicable operators, and how many there were.
+    fn step(&mut self, task: &Task, number: u32) -> usize
+        requires { IsWalk self.old task.now }
+        ensures { IsWalk self.new task.now }
+    {
+        self.look(task);
+        let count = self.applicable.len();
+        if let Some(op) = chosen(&self.applicable, number) {
+            self.go_on(task, op);
+        }
+        count
+    }
+}
+
+/// How many operators were applicable at so many steps together.
+fn walk_through(alloc: Global, task: &Task, steps: u32) -> Result<u64, NoMemory> {
+    let mut walk = Walk::new(alloc, task)?;
+    let mut applicable = 0u64;
+    for step in 0..steps {
+        let number = step.wrapping_mul(2_654_435_761) >> 8;
+        applicable = applicable.wrapping_add(walk.step(task, number) as u64);
+    }
+    Ok(applicable)
+}
+
+/// Walks through the delivery task of so many packages.
+pub fn walk_delivery(alloc: Global, packages: u32, steps: u32) -> Result<u64, Failure> {
+    if packages < 1 || 100 < packages {
+        return Err(Failure::Words);
+    }
+    let task = generate(alloc, packages)?;
+    Ok(walk_through(alloc, &task, steps)?)
+}
