@@ -6,11 +6,7 @@
 //! difference of two runs.
 #![tactic(auto)]
 
-mod delivery;
-mod failure;
-
-use delivery::{Costs, delivery};
-use failure::Failure;
+use bench_tasks::{Costs, Failure, delivery};
 use h_add::Add;
 use h_ff::Ff;
 use lama_num::Estimate;

@@ -1,13 +1,12 @@
 // States of so many words that are looked for.
 ghost use Rattle.std.specs.Prelude.{◌≡◌, vec_len};
 
-use crate::failure::Failure;
-use lama_num::{NoMemory, Seq};
+use bench_tasks::{Failure, bits};
+use lama_num::NoMemory;
 use packed_state::Layout;
-use sas_task::{Parts, Task, check};
+use sas_task::Task;
 use state_registry::{Interned, Registry};
-use std::alloc::{AllocError, Global};
-use test_tasks::variable;
+use std::alloc::Global;
 
 /// Visited states, and room for the words of one.
 #[derive(Drop)]
@@ -22,25 +21,6 @@ struct States {
 pub struct Looked {
     pub new: u64,
     pub known: u64,
-}
-
-/// As many variables of two values as there are bits in so many words.
-fn bits(alloc: Global, words: u32) -> Result<Parts, AllocError> {
-    let mut variables = Seq::new(alloc);
-    let mut init = Seq::new(alloc);
-    for _ in 0..words.saturating_mul(64) {
-        variables.push(variable(alloc, None, 2)?)?;
-        init.push(0)?;
-    }
-    Ok(Parts {
-        metric: false,
-        variables,
-        groups: Seq::new(alloc),
-        init,
-        goal: Seq::new(alloc),
-        operators: Seq::new(alloc),
-        rules: Seq::new(alloc),
-    })
 }
 
 /// Words that no other number gives.
@@ -90,12 +70,16 @@ fn look(states: &mut States, looked: Looked, most: u32) -> Result<Looked, NoMemo
     Ok(looked)
 }
 
-/// Looks three times for each of so many states of so many words.
-pub fn look_three_times(alloc: Global, words: u32, most: u32) -> Result<Looked, Failure> {
-    let task = check(bits(alloc, words)?)?;
-    let mut states = States::new(alloc, &task, most)?;
+fn three_times(alloc: Global, task: &Task, most: u32) -> Result<Looked, NoMemory> {
+    let mut states = States::new(alloc, task, most)?;
     let none = Looked { new: 0, known: 0 };
     let first = look(&mut states, none, most)?;
     let second = look(&mut states, first, most)?;
-    Ok(look(&mut states, second, most)?)
+    look(&mut states, second, most)
+}
+
+/// Looks three times for each of so many states of so many words.
+pub fn look_three_times(alloc: Global, words: u32, most: u32) -> Result<Looked, Failure> {
+    let task = bits(alloc, words)?;
+    Ok(three_times(alloc, &task, most)?)
 }

@@ -31,8 +31,10 @@ impl Lists {
 
     /// Puts four operators of a visit into one of the lists, and says how many they are.
     fn insert(&mut self, list: u32, key: u64, parent: u64) -> Result<u64, NoMemory> {
-        self.lists.insert_all(list % 4, key, parent, &[0, 1, 2, 3])?;
-        Ok(4)
+        match self.lists.insert_all(list % 4, key, parent, &[0, 1, 2, 3]) {
+            Ok(()) => Ok(4),
+            Err(NoMemory) => Err(NoMemory),
+        }
     }
 
     fn pop(&mut self) -> Option<Popped> {

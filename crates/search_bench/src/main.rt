@@ -7,16 +7,13 @@
 //! a round takes is the difference of two runs.
 #![tactic(auto)]
 
-mod failure;
 mod interning;
-mod layering;
 mod listing;
 mod settling;
 mod walking;
 
-use failure::Failure;
+use bench_tasks::{Failure, layered};
 use interning::look_three_times;
-use layering::layered;
 use listing::go_through;
 use settling::settle;
 use std::env;

@@ -5,14 +5,13 @@ ghost use Rattle.state_step.specs.Steps.{is_applicable};
 ghost use Rattle.succ_gen.specs.Trees.{applicable};
 ghost use Rattle.search_bench.specs.Walks.{IsWalk};
 
-use crate::failure::Failure;
+use bench_tasks::{Costs, Failure, delivery};
 use lama_num::NoMemory;
 use sas_task::Task;
 use state_step::Stepper;
 use std::alloc::Global;
 use std::mem::swap;
 use succ_gen::Tree;
-use task_gen::generate;
 
 /// The state that a walk is in, with room for the next one and for the applicable operators.
 #[derive(Drop)]
@@ -103,9 +102,10 @@ fn walk_through(alloc: Global, task: &Task, steps: u32) -> Result<u64, NoMemory>
 
 /// Walks through the delivery task of so many packages.
 pub fn walk_delivery(alloc: Global, packages: u32, steps: u32) -> Result<u64, Failure> {
-    if packages < 1 || 100 < packages {
-        return Err(Failure::Words);
-    }
-    let task = generate(alloc, packages)?;
+    let costs = Costs {
+        least: 1,
+        greatest: 1,
+    };
+    let task = delivery(alloc, costs, packages)?;
     Ok(walk_through(alloc, &task, steps)?)
 }

@@ -1,7 +1,8 @@
 // A task with layers of rules.
 use crate::failure::Failure;
+use crate::making::task;
 use lama_num::Seq;
-use sas_task::{Parts, Rule, Task, Variable, check};
+use sas_task::{Parts, Rule, Task, Variable};
 use std::alloc::{AllocError, Global};
 use test_tasks::{fact, rule, variable};
 
@@ -45,14 +46,11 @@ fn rules(alloc: Global, end: u32) -> Result<Seq<Rule>, AllocError> {
     Ok(rules)
 }
 
-/// The task with so many layers. Its rules stand in the order in which none but the last of a layer
-/// can be taken at once.
-pub fn layered(alloc: Global, layers: u32) -> Result<Task, Failure> {
-    let end = layers.saturating_add(1).saturating_mul(WIDTH);
+fn parts(alloc: Global, end: u32) -> Result<Parts, AllocError> {
     let variables = variables(alloc, end)?;
     let init = init(alloc, end)?;
     let rules = rules(alloc, end)?;
-    Ok(check(Parts {
+    Ok(Parts {
         metric: false,
         variables,
         groups: Seq::new(alloc),
@@ -60,5 +58,12 @@ pub fn layered(alloc: Global, layers: u32) -> Result<Task, Failure> {
         goal: Seq::new(alloc),
         operators: Seq::new(alloc),
         rules,
-    })?)
+    })
+}
+
+/// The task with so many layers. Its rules stand in the order in which none but the last of a layer
+/// can be taken at once.
+pub fn layered(alloc: Global, layers: u32) -> Result<Task, Failure> {
+    let end = layers.saturating_add(1).saturating_mul(WIDTH);
+    task(parts(alloc, end))
 }
