@@ -1,5 +1,5 @@
 // A task with layers of rules.
-use crate::failure::Failure;
+use crate::failing::Failure;
 use crate::making::task;
 use lama_num::Seq;
 use sas_task::{Parts, Rule, Task, Variable};

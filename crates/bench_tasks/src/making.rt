@@ -1,5 +1,5 @@
 // Tasks of parts.
-use crate::failure::Failure;
+use crate::failing::Failure;
 use sas_task::{Parts, Task, check};
 use std::alloc::AllocError;
 

@@ -2,7 +2,7 @@
 ghost use Rattle.search_bench.specs.Near.{IsNear};
 
 use lama_num::NoMemory;
-use open_lists::{OpenLists, Popped};
+use open_lists::OpenLists;
 use std::alloc::Global;
 
 /// Above what a machine counts up to in a day.
@@ -37,13 +37,18 @@ impl Lists {
         }
     }
 
-    fn pop(&mut self) -> Option<Popped> {
+    /// Takes out an entry, and says how many it took.
+    fn pop(&mut self) -> u64 {
         if self.pops >= MOST_POPS {
-            return None;
+            return 0;
         }
-        let popped = self.lists.pop();
-        self.pops += 1;
-        popped
+        match self.lists.pop() {
+            Some(_) => {
+                self.pops += 1;
+                1
+            }
+            None => 0,
+        }
     }
 }
 
@@ -53,16 +58,11 @@ fn key(round: u32, keys: u32) -> u64 {
     u64::from(scattered % keys.max(1))
 }
 
-/// One if something was taken out.
-fn count(popped: Option<Popped>) -> u64 {
-    u64::from(popped.is_some())
-}
-
 /// A round: four entries go in, and two come out.
 fn go_on(lists: &mut Lists, counts: Counts, round: u32, keys: u32) -> Result<Counts, NoMemory> {
     let inserted = lists.insert(round, key(round, keys), u64::from(round))?;
-    let first = count(lists.pop());
-    let second = count(lists.pop());
+    let first = lists.pop();
+    let second = lists.pop();
     Ok(Counts {
         inserted: counts.inserted.wrapping_add(inserted),
         popped: counts.popped.wrapping_add(first).wrapping_add(second),
@@ -84,7 +84,7 @@ fn fill(lists: &mut Lists, keys: u32, rounds: u32) -> Result<Counts, NoMemory> {
 fn drain(lists: &mut Lists, times: u64) -> u64 {
     let mut popped = 0u64;
     for _ in 0..times {
-        popped = popped.wrapping_add(count(lists.pop()));
+        popped = popped.wrapping_add(lists.pop());
     }
     popped
 }

@@ -1,5 +1,5 @@
 // The delivery task: a truck brings packages along a road. Its operators cost what is asked for.
-use crate::failure::Failure;
+use crate::failing::Failure;
 use crate::making::task;
 use lama_num::Seq;
 use sas_task::{Fact, Operator, Parts, Task, Variable};
