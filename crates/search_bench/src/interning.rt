@@ -70,16 +70,23 @@ fn look(states: &mut States, looked: Looked, most: u32) -> Result<Looked, NoMemo
     Ok(looked)
 }
 
-fn three_times(alloc: Global, task: &Task, most: u32) -> Result<Looked, NoMemory> {
-    let mut states = States::new(alloc, task, most)?;
-    let none = Looked { new: 0, known: 0 };
-    let first = look(&mut states, none, most)?;
-    let second = look(&mut states, first, most)?;
-    look(&mut states, second, most)
+fn three_times(states: &mut States, most: u32) -> Result<Looked, NoMemory> {
+    let mut looked = Looked { new: 0, known: 0 };
+    for _ in 0..3 {
+        looked = look(states, looked, most)?;
+    }
+    Ok(looked)
+}
+
+fn look_through(alloc: Global, task: &Task, most: u32) -> Result<Looked, NoMemory> {
+    match States::new(alloc, task, most) {
+        Ok(mut states) => three_times(&mut states, most),
+        Err(NoMemory) => Err(NoMemory),
+    }
 }
 
 /// Looks three times for each of so many states of so many words.
 pub fn look_three_times(alloc: Global, words: u32, most: u32) -> Result<Looked, Failure> {
     let task = bits(alloc, words)?;
-    Ok(three_times(alloc, &task, most)?)
+    Ok(look_through(alloc, &task, most)?)
 }

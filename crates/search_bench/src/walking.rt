@@ -27,10 +27,11 @@ pub struct Walk {
 fn chosen(operators: &[u32], number: u32) -> Option<u32>
     ensures { IfSome result (λ op. Contains operators.now op) }
 {
-    if operators.is_empty() {
+    let count = operators.len();
+    if count == 0 {
         return None;
     }
-    Some(operators[number as usize % operators.len()])
+    Some(operators[number as usize % count])
 }
 
 impl Walk {
@@ -89,15 +90,27 @@ impl Walk {
     }
 }
 
+/// A number for a step: they are scattered.
+fn scattered(step: u32) -> u32 {
+    step.wrapping_mul(2_654_435_761) >> 8
+}
+
 /// How many operators were applicable at so many steps together.
-fn walk_through(alloc: Global, task: &Task, steps: u32) -> Result<u64, NoMemory> {
-    let mut walk = Walk::new(alloc, task)?;
+fn walk_on(walk: &mut Walk, task: &Task, steps: u32) -> u64
+    requires { IsWalk walk.old task.now }
+{
     let mut applicable = 0u64;
     for step in 0..steps {
-        let number = step.wrapping_mul(2_654_435_761) >> 8;
-        applicable = applicable.wrapping_add(walk.step(task, number) as u64);
+        applicable = applicable.wrapping_add(walk.step(task, scattered(step)) as u64);
     }
-    Ok(applicable)
+    applicable
+}
+
+fn walk_through(alloc: Global, task: &Task, steps: u32) -> Result<u64, NoMemory> {
+    match Walk::new(alloc, task) {
+        Ok(mut walk) => Ok(walk_on(&mut walk, task, steps)),
+        Err(NoMemory) => Err(NoMemory),
+    }
 }
 
 /// Walks through the delivery task of so many packages.
