@@ -6,18 +6,14 @@
 //! difference of two runs.
 #![tactic(auto)]
 
-mod delivery;
-mod failure;
-
-use delivery::{Costs, delivery};
-use failure::Failure;
+use bench_tasks::{Costs, Failure, delivery};
 use h_add::Add;
 use h_ff::Ff;
 use lama_num::Estimate;
 use sas_task::{CostKind, Task};
 use std::alloc::Global;
 use std::env;
-use std::io::Print;
+use std::io::{self, Print};
 use std::rt::Env;
 
 /// What is measured: a size, how many evaluations, and what operators cost.
@@ -65,14 +61,29 @@ fn ff(alloc: Global, task: &Task, times: u32) -> Result<Estimate, Failure> {
     Ok(value)
 }
 
-fn measure(rt: &(impl Print + AllocGlobal), work: Measured) -> Result<(), Failure> {
-    let task = delivery(rt.alloc(), work.costs, work.packages)?;
-    let additive = additive(rt.alloc(), &task, work.additive)?;
-    let ff = ff(rt.alloc(), &task, work.ff)?;
-    println!(rt; "operators {}", task.parts().operators.len())?;
+fn print_estimates(
+    rt: &impl Print,
+    operators: usize,
+    additive: Estimate,
+    ff: Estimate,
+) -> Result<(), io::Error> {
+    println!(rt; "operators {operators}")?;
     println!(rt; "additive {additive:?}")?;
-    println!(rt; "ff {ff:?}")?;
-    Ok(())
+    println!(rt; "ff {ff:?}")
+}
+
+fn measure_on(rt: &(impl Print + AllocGlobal), task: &Task, work: Measured) -> Result<(), Failure> {
+    let operators = task.parts().operators.len();
+    let additive = additive(rt.alloc(), task, work.additive)?;
+    let ff = ff(rt.alloc(), task, work.ff)?;
+    Ok(print_estimates(rt, operators, additive, ff)?)
+}
+
+fn measure(rt: &(impl Print + AllocGlobal), work: Measured) -> Result<(), Failure> {
+    match delivery(rt.alloc(), work.costs, work.packages) {
+        Ok(task) => measure_on(rt, &task, work),
+        Err(error) => Err(error),
+    }
 }
 
 fn words(rt: &(impl Env + AllocGlobal)) -> Result<Vec<String>, Failure> {

@@ -1,9 +1,10 @@
 // The delivery task: a truck brings packages along a road. Its operators cost what is asked for.
-use crate::failure::Failure;
+use crate::failing::Failure;
+use crate::making::task;
 use lama_num::Seq;
-use sas_task::{Fact, Operator, Parts, Task, Variable, check};
+use sas_task::{Fact, Operator, Parts, Task, Variable};
 use std::alloc::{AllocError, Global};
-use test_tasks::{fact, facts, giving, variable};
+use test_tasks::{fact, giving, variable};
 
 /// What operators cost: from the least to the greatest, scattered by their numbers.
 #[derive(Clone, Copy, Debug)]
@@ -113,13 +114,12 @@ fn operators(alloc: Global, costs: Costs, packages: u32) -> Result<Seq<Operator>
     Ok(operators)
 }
 
-/// The delivery task of so many packages.
-pub fn delivery(alloc: Global, costs: Costs, packages: u32) -> Result<Task, Failure> {
+fn parts(alloc: Global, costs: Costs, packages: u32) -> Result<Parts, AllocError> {
     let variables = variables(alloc, packages)?;
     let init = init(alloc, packages)?;
     let goal = goal(alloc, packages)?;
     let operators = operators(alloc, costs, packages)?;
-    Ok(check(Parts {
+    Ok(Parts {
         metric: true,
         variables,
         groups: Seq::new(alloc),
@@ -127,5 +127,10 @@ pub fn delivery(alloc: Global, costs: Costs, packages: u32) -> Result<Task, Fail
         goal,
         operators,
         rules: Seq::new(alloc),
-    })?)
+    })
+}
+
+/// The delivery task of so many packages.
+pub fn delivery(alloc: Global, costs: Costs, packages: u32) -> Result<Task, Failure> {
+    task(parts(alloc, costs, packages))
 }

@@ -1,0 +1,125 @@
+//! Counts by which the crates below a search are timed: `search_bench KIND SIZE ROUNDS ..`.
+//!
+//! Each three words are a job. `lists` puts four entries a round under SIZE keys into open lists and
+//! takes them out again, `intern` looks three times for each of ROUNDS states of SIZE words, `walk`
+//! takes ROUNDS steps in the delivery task of SIZE packages, and `settle` settles ROUNDS states of a
+//! task with SIZE layers of a hundred rules. It prints counts, which are the same in each run; what
+//! a round takes is the difference of two runs.
+#![tactic(auto)]
+
+mod interning;
+mod listing;
+mod settling;
+mod walking;
+
+use bench_tasks::{Failure, layered};
+use interning::look_three_times;
+use listing::go_through;
+use settling::settle;
+use std::env;
+use std::io::Print;
+use std::rt::Env;
+use walking::walk_delivery;
+
+/// What a job is about.
+#[derive(Clone, Copy, Debug)]
+enum Kind {
+    Lists,
+    Intern,
+    Walk,
+    Settle,
+}
+
+#[derive(Clone, Copy, Debug)]
+struct Job {
+    kind: Kind,
+    size: u32,
+    rounds: u32,
+}
+
+fn kind_of(word: &str) -> Option<Kind> {
+    match word {
+        "lists" => Some(Kind::Lists),
+        "intern" => Some(Kind::Intern),
+        "walk" => Some(Kind::Walk),
+        "settle" => Some(Kind::Settle),
+        _ => None,
+    }
+}
+
+fn number(word: &str) -> Option<u32> {
+    word.parse().ok()
+}
+
+/// The job that three words from a place on make.
+fn job_at(words: &[String], place: usize) -> Option<Job> {
+    Some(Job {
+        kind: kind_of(words.get(place)?.as_str())?,
+        size: number(words.get(place.saturating_add(1))?.as_str())?,
+        rounds: number(words.get(place.saturating_add(2))?.as_str())?,
+    })
+}
+
+fn lists(rt: &(impl Print + AllocGlobal), keys: u32, rounds: u32) -> Result<(), Failure> {
+    let counts = go_through(rt.alloc(), keys, rounds)?;
+    println!(rt;
+        "lists {keys} {rounds}: in {}, out {}",
+        counts.inserted, counts.popped
+    )?;
+    Ok(())
+}
+
+fn intern(rt: &(impl Print + AllocGlobal), words: u32, states: u32) -> Result<(), Failure> {
+    let counts = look_three_times(rt.alloc(), words, states)?;
+    println!(rt;
+        "intern {words} {states}: new {}, known {}",
+        counts.new, counts.known
+    )?;
+    Ok(())
+}
+
+fn walk_on(rt: &(impl Print + AllocGlobal), packages: u32, steps: u32) -> Result<(), Failure> {
+    let applicable = walk_delivery(rt.alloc(), packages, steps)?;
+    println!(rt; "walk {packages} {steps}: applicable {applicable}")?;
+    Ok(())
+}
+
+fn settle_on(rt: &(impl Print + AllocGlobal), layers: u32, rounds: u32) -> Result<(), Failure> {
+    let task = layered(rt.alloc(), layers)?;
+    let given = settle(rt.alloc(), &task, rounds)?;
+    println!(rt; "settle {layers} {rounds}: given {given}")?;
+    Ok(())
+}
+
+fn run(rt: &(impl Print + AllocGlobal), job: Job) -> Result<(), Failure> {
+    match job.kind {
+        Kind::Lists => lists(rt, job.size, job.rounds),
+        Kind::Intern => intern(rt, job.size, job.rounds),
+        Kind::Walk => walk_on(rt, job.size, job.rounds),
+        Kind::Settle => settle_on(rt, job.size, job.rounds),
+    }
+}
+
+/// Runs the job that three words from a place on make.
+fn run_at(rt: &(impl Print + AllocGlobal), words: &[String], place: usize) -> Result<(), Failure> {
+    match job_at(words, place) {
+        Some(job) => run(rt, job),
+        None => Err(Failure::Words),
+    }
+}
+
+fn run_all(rt: &(impl Print + AllocGlobal), words: &[String]) -> Result<(), Failure> {
+    for number in 0..words.len() / 3 {
+        run_at(rt, words, number.saturating_mul(3).saturating_add(1))?;
+    }
+    Ok(())
+}
+
+fn words(rt: &(impl Env + AllocGlobal)) -> Result<Vec<String>, Failure> {
+    Ok(env::args(rt)?.collect(rt.alloc())?)
+}
+
+fn main(rt: HostRuntime) -> Result<(), Failure> {
+    let words = words(&rt)?;
+    run_all(&rt, &words)
+}
