@@ -1,34 +1,22 @@
-// What a guide says along a path, as plain numbers.
-ghost use Rattle.std.specs.Prelude.{◌≡◌, length, IfOk, OnOk};
-ghost use Rattle.sas_task.specs.States.{IsState};
-ghost use Rattle.guide.specs.Operators.{applicable_operators};
+// What a guide says in the first visits of a search, as plain numbers, by functions that promise
+// nothing. Each big value is given up in a function of its own.
 ghost use Rattle.conf_text.specs.Accepted.{IsPhase};
-ghost use Rattle.phase_guide.specs.Guides.{IsFor};
-ghost use Rattle.state_step.specs.Stepper.{IsFor as IsStepper};
+ghost use Rattle.search_log.specs.Phases.{IsSetting};
 
 use conf_text::{Phase, read};
-use guide::{Guide, Seen};
+use guide::Guide;
+use host_mem::MemClock;
 use lama_num::NoMemory;
-use phase_guide::{PhaseGuide, guide};
-use sas_task::Task;
-use state_step::Stepper;
+use lazy_search::{SearchEnd, search};
+use phase_guide::guide;
+use sas_task::{CostKind, Task};
+use search_log::{Log, Setting, VisitAt};
 use std::alloc::{AllocError, Global};
-use std::process::Abort;
 use std::test::Fail;
-use succ_gen::Tree;
+use test_tasks::task;
 
 /// Between the estimates and the preferred operators of a state, and behind them.
 pub const AND: u32 = 99;
-
-fn applicable(alloc: Global, task: &Task, state: &[u32]) -> Result<Vec<u32>, NoMemory>
-    requires { length state.now ≡ length task.now.variables }
-    ensures { IfOk result (λ ops. ops.items ≡ applicable_operators task.now state.now) }
-{
-    let mut ops = Vec::with_capacity(alloc, task.parts().operators.len())?;
-    let mut tree = Tree::new(alloc, task)?;
-    tree.applicable_into(task, state, &mut ops);
-    Ok(ops)
-}
 
 fn push_all(answers: &mut Vec<u32>, more: &[u32]) -> Result<(), AllocError> {
     for number in more {
@@ -39,96 +27,77 @@ fn push_all(answers: &mut Vec<u32>, more: &[u32]) -> Result<(), AllocError> {
 }
 
 // Whether the state is dead, its three estimates, and the preferred operators.
-fn push_answer(answers: &mut Vec<u32>, seen: &Seen) -> Result<(), AllocError> {
-    answers.push(seen.dead as u32)?;
-    push_all(answers, &seen.estimates)?;
-    push_all(answers, &seen.preferred)
+fn push_visit(answers: &mut Vec<u32>, visit: VisitAt<'_>) -> Result<(), AllocError> {
+    answers.push(visit.dead as u32)?;
+    push_all(answers, &visit.estimates)?;
+    push_all(answers, visit.preferred)
 }
 
-fn visit(
-    guide: &mut PhaseGuide,
-    alloc: Global,
-    task: &Task,
-    parent: Option<u32>,
-    id: u32,
-    state: &[u32],
-    answers: &mut Vec<u32>,
-) -> Result<(), NoMemory>
-    requires task { IsFor guide.old task.now }
-    requires state { IsState task.now.variables state.now }
-    ensures { OnOk result (IsFor guide.new task.now) }
-{
-    let applicable = applicable(alloc, task, state)?;
-    let mut seen = Seen::new(alloc);
-    guide.visit(alloc, task, parent, id, state, &applicable, &mut seen)?;
-    push_answer(answers, &seen)?;
-    Ok(())
-}
-
-// What a guide says of the initial state, and then of the state after an operator.
-fn answers_along(
-    rt: &(impl Abort + AllocGlobal),
-    guide: &mut PhaseGuide,
-    stepper: &mut Stepper,
-    task: &Task,
-    op: u32,
-) -> Result<Vec<u32>, Fail>
-    requires guide { IsFor guide.old task.now }
-    requires stepper { IsStepper stepper.old task.now }
-{
-    let alloc = rt.alloc();
-    let count = task.parts().variables.len();
-    let mut state = vec![in alloc; 0; count]?;
-    let mut next = vec![in alloc; 0; count]?;
+fn told_by(alloc: Global, log: Log) -> Result<Vec<u32>, NoMemory> {
     let mut answers = Vec::new(alloc);
-    stepper.initial(task, &mut state);
-    visit(guide, alloc, task, None, 0, &state, &mut answers)?;
-    assert!(rt; (op as usize) < task.parts().operators.len());
-    assert!(rt; stepper.applicable(task, &state, op));
-    stepper.apply_into(task, &state, op, &mut next);
-    visit(guide, alloc, task, Some(0), 1, &next, &mut answers)?;
+    for number in 0..log.visits() {
+        push_visit(&mut answers, log.visit(number))?;
+    }
     Ok(answers)
 }
 
-fn answers_by(
-    rt: &(impl Abort + AllocGlobal),
-    guide: &mut PhaseGuide,
-    task: &Task,
-    op: u32,
-) -> Result<Vec<u32>, Fail>
-    requires { IsFor guide.old task.now }
-{
-    let mut stepper = Stepper::new(rt.alloc(), task)?;
-    answers_along(rt, guide, &mut stepper, task, op)
+fn log_of(alloc: Global, end: SearchEnd) -> Log {
+    match end {
+        SearchEnd::Plan { log, .. } => log,
+        SearchEnd::Unsolvable { log, .. } => log,
+        SearchEnd::Unsolved { log, .. } => log,
+        SearchEnd::Limit { log, .. } => log,
+        SearchEnd::NoMemory => Log::new(alloc),
+    }
 }
 
-fn answers_of(
-    rt: &(impl Abort + AllocGlobal),
-    task: &Task,
-    phase: &Phase,
-    op: u32,
-) -> Result<Vec<u32>, Fail>
+/// A greedy search that takes one entry.
+fn one_pop() -> Setting
+    ensures { IsSetting result }
+{
+    Setting {
+        cost: CostKind::Normal,
+        weight: None,
+        reopen: false,
+        boost: 1000,
+        bound: None,
+        most_pops: 1,
+        most_states: 2_147_483_647,
+        stop: None,
+    }
+}
+
+fn searched<G: Guide>(alloc: Global, task: &Task, guide: &mut G) -> Result<Vec<u32>, NoMemory>
+    requires { G.is_for guide.old task.now }
+{
+    let mut clock = MemClock::new(Vec::new(alloc));
+    let end = search(alloc, task, &one_pop(), guide, &mut clock);
+    told_by(alloc, log_of(alloc, end))
+}
+
+fn answers_of(alloc: Global, task: &Task, phase: &Phase) -> Result<Vec<u32>, NoMemory>
     requires { IsPhase phase.now }
 {
-    let mut guide = guide(rt.alloc(), task, phase)?;
-    let answers = answers_by(rt, &mut guide, task, op);
-    guide.release();
-    answers
+    match guide(alloc, task, phase) {
+        Ok(made) => {
+            let mut made = made;
+            let answers = searched(alloc, task, &mut made);
+            made.release();
+            answers
+        }
+        Err(NoMemory) => Err(NoMemory),
+    }
 }
 
-/// What the guide of the first phase of a configuration says of the initial state, and then of the
-/// state after an operator.
-pub fn answers(
-    rt: &(impl Abort + AllocGlobal),
-    task: &Task,
-    config: &str,
-    op: u32,
-) -> Result<Vec<u32>, Fail> {
-    let Ok(config) = read(rt.alloc(), config) else {
+/// What the guide of the first phase of a configuration says of the initial state, and of the state
+/// behind the first entry that is taken.
+pub fn answers(alloc: Global, text: &str, config: &str) -> Result<Vec<u32>, Fail> {
+    let Ok(config) = read(alloc, config) else {
         return Err(Fail::from("refused"));
     };
-    match config.phases.as_slice().first() {
-        Some(phase) => answers_of(rt, task, phase, op),
-        None => Err(Fail::from("no phase")),
-    }
+    let Some(phase) = config.phases.as_slice().first() else {
+        return Err(Fail::from("no phase"));
+    };
+    let task = task(alloc, text)?;
+    Ok(answers_of(alloc, &task, phase)?)
 }
