@@ -1,8 +1,8 @@
-pub mod Entries
-pub mod Guided
+pub mod Ending
 pub mod Leaves
 pub mod Reports
-pub mod RunEvents
+pub mod Requests
 pub mod Runs
-pub mod Searches
+pub mod Searching
+pub mod Seen
 pub mod Words

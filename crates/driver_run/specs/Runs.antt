@@ -1,37 +1,49 @@
 -- A run of the planner.
-use Rattle.std.specs.Prelude.{◌≡◌, ◌≢◌, ℕ, List, Option, Ok, Err}
+use Rattle.std.specs.Prelude.{◌≡◌, ◌≢◌, ℕ, List, Option, Some, None, Ok, Err}
 use Rattle.std.specs.FinMap.{get}
 use Rattle.lama_host.specs.Folder.{Told, WhereTold, Rose}
 use Rattle.lama_host.specs.Steps.{Leaves, Stays}
-use Rattle.driver_run.specs.declared.report.Ended.{Ended}
-use Rattle.driver_run.specs.declared.report.Ended.TheVariants.{Done}
-use Rattle.driver_run.specs.declared.report.Why.TheVariants.{Fault}
-use Rattle.driver_run.specs.declared.report.WordsFault.{WordsFault}
+use Rattle.sas_task.specs.declared.contents.Parts.{Parts}
+use Rattle.conf_text.specs.declared.faults.ConfBad.{ConfBad}
+use Rattle.run_report.specs.declared.report.Ended.{Ended}
+use Rattle.run_report.specs.declared.report.Ended.TheVariants.{Done}
+use Rattle.run_report.specs.declared.report.Why.TheVariants.{Words, Config, Fault}
+use Rattle.run_report.specs.declared.report.WordsFault.{WordsFault}
+use Rattle.run_report.specs.Clocks.{AsksClock}
+use Rattle.run_report.specs.Events.{code_of, IsRunToEnd}
+use Rattle.run_report.specs.Plans.{KeepsPlans}
+use Rattle.run_report.specs.Tells.{Turns}
 use Rattle.driver_run.specs.Words.{line_of}
-use Rattle.driver_run.specs.Reports.{IfDone, refusal, IsAccepted, TellsTask, KeepsPlans, EndsAs, code_of}
-use Rattle.driver_run.specs.RunEvents.{TellsEvents, AsksClock}
+use Rattle.driver_run.specs.Requests.{Request, request_of, is_many}
+use Rattle.driver_run.specs.Reports.{IfDone, refusal, IsAccepted, TellsTask, Tells, Completes, task_in}
 use Rattle.driver_run.specs.Leaves.{LeavesPlans}
 
 -- What a run on these words was, by what the folder tells before and now, what the clock answered, and how it ended.
 pub record IsRun (words : List (List ℕ)) (before now : Told) (last_before last_now : ℕ) (answers_before answers_now : Option (List ℕ)) (ended : Ended) : Type 0 where
   -- words that aren't accepted are refused, with no other cause, and others are accepted, whatever the folder tells
-  pub refused : (fault : WordsFault) → line_of words ≡ Err fault → (ended ≡ Done (refusal fault)) × (now ≡ before)
-  pub accepted : (name : List ℕ) → line_of words ≡ Ok name → IfDone ended (λ report. IsAccepted report.why)
+  pub refused : (fault : WordsFault) → line_of words ≡ Err fault → (ended ≡ Done (refusal (Words fault))) × (now ≡ before)
+  pub no_config : (bad : ConfBad) → request_of words ≡ Err (Config bad) → IfDone ended (λ report. report ≡ refusal (Config bad)) × (now ≡ before)
+  pub accepted : (request : Request) → request_of words ≡ Ok request → IfDone ended (λ report. IsAccepted report.why)
   -- the report tells what the named file held
-  pub request : (name : List ℕ) → line_of words ≡ Ok name → WhereTold before (λ files. IfDone ended (λ report. TellsTask (get files name) report.task report.why))
-  -- each kept plan is a plan of the task, with its cost
-  pub plans : IfDone ended KeepsPlans
+  pub request : (request : Request) → request_of words ≡ Ok request → WhereTold before (λ files. IfDone ended (λ report. TellsTask (get files request.task) report.task report.why))
+  -- where that is the text of a task, and no call failed, the run comes to its end
+  pub finishes : (request : Request) → request_of words ≡ Ok request → WhereTold before (λ files. IfDone ended (λ report.
+      (bytes : List ℕ) (parts : Parts) → get files request.task ≡ Some bytes → task_in bytes ≡ Ok parts → report.why ≢ Fault → IsRunToEnd report.why))
+  -- the plans are numbered where plan after plan is looked for
+  pub many : (request : Request) → request_of words ≡ Ok request → IfDone ended (λ report. report.many ≡ is_many request.aim.chosen)
+  -- each kept plan is a plan of the task, with its cost, and they are cheaper and cheaper, whatever ended the run
+  pub plans : (request : Request) → request_of words ≡ Ok request → IfDone ended (λ report. KeepsPlans report.task request.aim.bound report.kept)
   -- where no call failed, the folder holds just the plans
-  pub files : (name : List ℕ) → line_of words ≡ Ok name → IfDone ended (λ report. report.why ≢ Fault → Leaves before now (LeavesPlans report.task report.kept))
-  -- the events are legal, and what was kept and the code are theirs
-  pub events : IfDone ended TellsEvents
-  -- a run that says so has shown that no plan exists
-  pub ends : IfDone ended (λ report. EndsAs report report.ends)
+  pub files : (request : Request) → request_of words ≡ Ok request → IfDone ended (λ report. report.why ≢ Fault → Leaves before now (LeavesPlans report.task report.many report.kept))
+  -- The report tells the turns of a run: the lists of plans, candidates and ends; the events, which are legal, with what was kept and the
+  -- code; how each search went and ended, and what that shows. The clock is asked as the run begins and as each turn does.
+  pub told : (request : Request) → request_of words ≡ Ok request → IfDone ended (λ report. (turns : Turns)
+      × Tells request.aim report.task report turns × AsksClock last_before last_now answers_before answers_now report turns)
+  -- without a bound, and where its first phase has room, it finds a plan or that there is none
+  pub complete : (request : Request) → request_of words ≡ Ok request → IfDone ended (λ report. Completes request.aim report.task report)
   -- the code is a function of what the report tells
   pub code : IfDone ended (λ report. report.code ≡ code_of report.why report.kept report.ends)
   -- a fault comes only from a call that failed
   pub fault : IfDone ended (λ report. report.why ≡ Fault → Rose before.faults now.faults)
-  -- the clock is asked as the run begins and as each entry does
-  pub clock : (name : List ℕ) → line_of words ≡ Ok name → IfDone ended (AsksClock last_before last_now answers_before answers_now)
   -- no child was started, what the host tells it still tells, and it runs as many children as before
   pub stays : Stays before now

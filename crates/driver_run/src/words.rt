@@ -1,8 +1,11 @@
 // The words of the command line.
-ghost use Rattle.std.specs.Prelude.{◌≡◌, ◌<◌, map, string_bytes, not, nat_eq};
+ghost use Rattle.std.specs.Prelude.{◌≡◌, ◌<◌, ◌≤◌, map, string_bytes, not, nat_eq, length, true};
 ghost use Rattle.std.specs.List.{list_all};
 ghost use Rattle.std.specs.Result.{result_map_both};
-ghost use Rattle.driver_run.specs.Words.{line_of, task_name as the_task_name, base_name};
+ghost use Rattle.driver_run.specs.Seen.{text_of, seen, seen_work};
+ghost use Rattle.driver_run.specs.Words.{line_of, base_name};
+ghost use Rattle.driver_run.specs.Words.{value_in, words_behind, bound_of, work_of, asked_of};
+ghost use Rattle.driver_run.specs.Words.{begins_with as front_test};
 ghost use Rattle.driver_run.specs.Words.{is_task_name as task_name_test};
 ghost use Rattle.driver_run.specs.Words.{begins_with_dash as dash_test};
 ghost use Rattle.driver_run.specs.Words.{is_plan_number as number_test};
@@ -11,9 +14,10 @@ ghost use Rattle.driver_run.specs.Words.{is_of_child as child_test};
 ghost use Rattle.driver_run.specs.Words.{is_own_ending as ending_test};
 ghost use Rattle.driver_run.specs.Words.{is_own_name as own_test};
 
-use crate::report::WordsFault;
 use itoa::Buffer;
 use lama_num::read_decimal;
+use portfolio_text::AliasName;
+use run_report::{Opt, WordsFault};
 
 /// The base of the plan files.
 pub const BASE: &str = "sas_plan";
@@ -89,26 +93,116 @@ fn is_own_name(name: &[u8]) -> bool
     &name[..base.len()] == base && is_own_ending(&name[base.len()..])
 }
 
-fn task_name(name: &str) -> Result<&str, WordsFault>
-    ensures { result_map_both (λ name. name.now) (λ fault. fault) result ≡ the_task_name name.now }
-{
-    if !is_task_name(name.as_bytes()) {
-        return Err(WordsFault::Refused);
-    }
-    if is_own_name(name.as_bytes()) {
-        return Err(WordsFault::NameClash);
-    }
-    Ok(name)
+/// What a line asks the search for.
+#[derive(Clone, Copy, Debug)]
+pub enum Work<'a> {
+    /// A configuration that is built in.
+    Alias(AliasName),
+    /// The text of a configuration.
+    Search(&'a str),
 }
 
-/// The task's name that the words ask for, or what is wrong with them.
-#[tactic(auto, using(crate::proofs::OwnNames::refused, crate::proofs::OwnNames::one_word))]
-pub fn request(words: &[String]) -> Result<&str, WordsFault>
-    ensures { result_map_both (λ name. name.now) (λ fault. fault) result
+/// What the words of a line ask for.
+#[derive(Clone, Copy, Debug)]
+pub struct Line<'a> {
+    pub work: Work<'a>,
+    /// What a plan must cost less than.
+    pub bound: Option<u64>,
+    pub task: &'a str,
+}
+
+/// Whether the words begin with this option and a value.
+fn begins_with(option: &str, words: &[String]) -> bool
+    ensures same { result ≡ front_test option.now (map string_bytes words.now) }
+    ensures two { result ≡ true → 2 ≤ length words.now }
+{
+    words.len() >= 2 && words[0].as_str() == option
+}
+
+/// The value of an option that the words begin with.
+fn value<'a>(option: &str, words: &'a [String]) -> Option<&'a str>
+    ensures { text_of result ≡ value_in option.now (map string_bytes words.now) }
+{
+    if begins_with(option, words) {
+        Some(words[1].as_str())
+    } else {
+        None
+    }
+}
+
+/// The words behind such an option, or all.
+fn behind<'a>(option: &str, words: &'a [String]) -> &'a [String]
+    ensures { map string_bytes result.now ≡ words_behind option.now (map string_bytes words.now) }
+{
+    if begins_with(option, words) {
+        &words[2..]
+    } else {
+        words
+    }
+}
+
+/// The bound that a text is.
+fn bound(text: Option<&str>) -> Result<Option<u64>, WordsFault>
+    ensures { result ≡ bound_of (text_of text) }
+{
+    match text {
+        None => Ok(None),
+        Some(text) => match read_decimal(text.as_bytes()) {
+            Some(bound) => Ok(Some(bound)),
+            None => Err(WordsFault::BadValue(Opt::Bound)),
+        },
+    }
+}
+
+/// The work of a line with this alias or this configuration; `lama` where it has neither.
+fn work<'a>(alias: Option<&str>, search: Option<&'a str>) -> Result<Work<'a>, WordsFault>
+    ensures { result_map_both seen_work (λ fault. fault) result
+        ≡ work_of (text_of alias) (text_of search) }
+{
+    match search {
+        Some(text) => Ok(Work::Search(text)),
+        None => match AliasName::named(alias.unwrap_or("lama")) {
+            Some(name) => Ok(Work::Alias(name)),
+            None => Err(WordsFault::UnknownAlias),
+        },
+    }
+}
+
+/// What the line asks for, by the values of its options.
+fn asked<'a>(
+    alias: Option<&str>,
+    search: Option<&'a str>,
+    limit: Option<&str>,
+    task: &'a str,
+) -> Result<Line<'a>, WordsFault>
+    ensures { result_map_both seen (λ fault. fault) result
+        ≡ asked_of (text_of alias) (text_of search) (text_of limit) task.now }
+{
+    let bound = bound(limit)?;
+    let work = work(alias, search)?;
+    if is_own_name(task.as_bytes()) {
+        return Err(WordsFault::NameClash);
+    }
+    Ok(Line { work, bound, task })
+}
+
+/// What the words ask for, or what is wrong with them.
+pub fn line(words: &[String]) -> Result<Line<'_>, WordsFault>
+    ensures { result_map_both seen (λ fault. fault) result
         ≡ line_of (map string_bytes words.now) }
 {
-    if words.len() != 1 {
+    let alias = value("--alias", words);
+    let named = behind("--alias", words);
+    let search = value("--search", named);
+    let searched = behind("--search", named);
+    let limit = value("--bound", searched);
+    let words = behind("--bound", searched);
+    if words.len() != 1 || (alias.is_some() && search.is_some()) {
         return Err(WordsFault::Refused);
     }
-    task_name(words[0].as_str())
+    let task = words[0].as_str();
+    if !is_task_name(task.as_bytes()) {
+        return Err(WordsFault::Refused);
+    }
+    asked(alias, search, limit, task)
 }
