@@ -1,7 +1,7 @@
 -- The exit status of a run.
 use Rattle.std.specs.Prelude.{ℕ}
-use Rattle.driver_run.specs.declared.report.Ended.{Ended}
-use Rattle.driver_run.specs.declared.report.Ended.TheVariants.{Done, NoMemory}
+use Rattle.run_report.specs.declared.report.Ended.{Ended}
+use Rattle.run_report.specs.declared.report.Ended.TheVariants.{Done, NoMemory}
 
 -- the report's code, or 40
 abbrev pub status_of : Ended → ℕ

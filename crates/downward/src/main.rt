@@ -1,4 +1,4 @@
-//! The planner as a program: `downward TASK`.
+//! The planner as a program: `downward [--alias NAME | --search CONFIG] [--bound N] TASK`.
 //!
 //! The words of the command line go to the top call, over the current folder and standard output.
 //! The exit status is the report's code; 40 where memory was wanting; 35 where the words can't be
@@ -7,7 +7,7 @@
 
 ghost use Rattle.std.specs.Prelude.{◌≡◌, [], IfOk, OnErr, drop, map, string_bytes};
 ghost use Rattle.std.specs.Process.{exit_status};
-ghost use Rattle.driver_run.specs.declared.report.Ended.{Ended as TheEnded};
+ghost use Rattle.run_report.specs.declared.report.Ended.{Ended as TheEnded};
 ghost use Rattle.driver_run.specs.Runs.{IsRun};
 ghost use Rattle.downward.specs.Status.{status_of};
 

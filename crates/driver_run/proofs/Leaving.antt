@@ -1,5 +1,5 @@
 -- What stands in the folder from call to call.
-use Rattle.std.proofs.Common.{◌≡◌, ◌≢◌, ◌∙◌, sym, ap, subst, refl, ℕ, zero, suc, List, [], true, false, Option, Some, None, is_some, Ok, arith}
+use Rattle.std.proofs.Common.{◌≡◌, ◌≢◌, ◌∙◌, sym, ap, subst, refl, ℕ, zero, suc, List, [], Bool, true, false, Option, Some, None, is_some, Ok, arith}
 use Rattle.std.specs.FinMap.{get}
 use Rattle.lama_host.specs.declared.files.Failed.{Failed}
 use Rattle.lama_host.specs.Folder.{Told, Files, WhereTold, IsUntouched, Changes, last_of}
@@ -21,12 +21,12 @@ same_files : (x y : Files) → Some x ≡ Some y → x ≡ y
 same_files x y e = cc
 
 -- a folder that was sealed
-pub sealed_plans : (before now : Told) (parts : Parts) (kept : List Kept) (base : List ℕ) → base ≡ base_name →
-    Changes before now (Seals {T = Unit {0}} {E = Failed} (Ok tt) base false parts kept) → Leaves before now (LeavesPlans (Some parts) kept)
-sealed_plans before now parts kept base is = leaves_by before now (Seals {T = Unit {0}} {E = Failed} (Ok tt) base false parts kept) (LeavesPlans (Some parts) kept)
+pub sealed_plans : (before now : Told) (parts : Parts) (many : Bool) (kept : List Kept) (base : List ℕ) → base ≡ base_name →
+    Changes before now (Seals {T = Unit {0}} {E = Failed} (Ok tt) base many parts kept) → Leaves before now (LeavesPlans (Some parts) many kept)
+sealed_plans before now parts many kept base is = leaves_by before now (Seals {T = Unit {0}} {E = Failed} (Ok tt) base many parts kept) (LeavesPlans (Some parts) many kept)
     (λ files steps seals. record {
-      holds = subst (λ b. HoldsPlans (last_of files steps) b false parts kept) is seals.1;
-      outside = subst (λ b. SameOutside b files (last_of files steps)) is (sealing_leaves base false parts kept files steps seals.0).outside;
+      holds = subst (λ b. HoldsPlans (last_of files steps) b many parts kept) is seals.1;
+      outside = subst (λ b. SameOutside b files (last_of files steps)) is (sealing_leaves base many parts kept files steps seals.0).outside;
     })
 
 -- a folder that was cleared
@@ -35,8 +35,8 @@ clear_leaves before now base = leaves_by before now (Clears {T = Unit {0}} {E = 
     (λ files steps clears. (clearing_leaves {T = Unit {0}} {E = Failed} (Ok tt) base files steps clears, clears.1))
 
 -- what was left after a change inside alone
-pub plans_after : (before mid now : Told) (task : Option Parts) (kept : List Kept) → mid.busy ≡ [] → Leaves before mid (SameOutside base_name) → Leaves mid now (LeavesPlans task kept) → Leaves before now (LeavesPlans task kept)
-plans_after before mid now task kept quiet first second = λ files idle held.
+pub plans_after : (before mid now : Told) (task : Option Parts) (many : Bool) (kept : List Kept) → mid.busy ≡ [] → Leaves before mid (SameOutside base_name) → Leaves mid now (LeavesPlans task many kept) → Leaves before now (LeavesPlans task many kept)
+plans_after before mid now task many kept quiet first second = λ files idle held.
     let one = first files idle held in
     let two = second one.0 quiet one.1 in (
       two.0,
@@ -48,19 +48,19 @@ plans_after before mid now task kept quiet first second = λ files idle held.
     )
 
 -- after nothing was touched
-pub plans_untouched : (before mid now : Told) (task : Option Parts) (kept : List Kept) → IsUntouched before mid → Leaves mid now (LeavesPlans task kept) → Leaves before now (LeavesPlans task kept)
-plans_untouched before mid now task kept same second = λ files idle held. second files (ap (λ t. t.busy) same ∙ idle) (ap (λ t. t.content) same ∙ held)
+pub plans_untouched : (before mid now : Told) (task : Option Parts) (many : Bool) (kept : List Kept) → IsUntouched before mid → Leaves mid now (LeavesPlans task many kept) → Leaves before now (LeavesPlans task many kept)
+plans_untouched before mid now task many kept same second = λ files idle held. second files (ap (λ t. t.busy) same ∙ idle) (ap (λ t. t.content) same ∙ held)
 
 -- after clearing
-pub plans_cleared : (before mid now : Told) (task : Option Parts) (kept : List Kept) (base : List ℕ) → base ≡ base_name → mid.busy ≡ [] → Changes before mid (Clears {T = Unit {0}} {E = Failed} (Ok tt) base) → Leaves mid now (LeavesPlans task kept) → Leaves before now (LeavesPlans task kept)
-plans_cleared before mid now task kept base is quiet first second =
-    plans_after before mid now task kept quiet
+pub plans_cleared : (before mid now : Told) (task : Option Parts) (many : Bool) (kept : List Kept) (base : List ℕ) → base ≡ base_name → mid.busy ≡ [] → Changes before mid (Clears {T = Unit {0}} {E = Failed} (Ok tt) base) → Leaves mid now (LeavesPlans task many kept) → Leaves before now (LeavesPlans task many kept)
+plans_cleared before mid now task many kept base is quiet first second =
+    plans_after before mid now task many kept quiet
     (λ files idle held. let one = clear_leaves before mid base first files idle held in (one.0, one.1, subst (λ b. SameOutside b files one.0) is one.2.0.outside))
     second
 
 -- a cleared folder, where nothing was touched after that
-pub still_cleared : (before now : Told) (kept : List Kept) → IsUntouched before now → Leaves before before (λ first files. IsCleared base_name files) → Leaves before now (LeavesPlans None kept)
-still_cleared before now kept same cleared = λ files idle held.
+pub still_cleared : (before now : Told) (many : Bool) (kept : List Kept) → IsUntouched before now → Leaves before before (λ first files. IsCleared base_name files) → Leaves before now (LeavesPlans None many kept)
+still_cleared before now many kept same cleared = λ files idle held.
     let c = cleared files idle held in (
       files,
       ap (λ t. t.content) same ∙ held,

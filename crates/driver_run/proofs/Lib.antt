@@ -1,7 +1,9 @@
-pub mod Entering
-pub mod Helpful
-pub mod Finding
+pub mod Found
+pub mod Going
 pub mod Leaving
 pub mod OwnNames
-pub mod Reporting
+pub mod Phasing
+pub mod Placing
+pub mod Stepping
 pub mod Tells
+pub mod Turning

@@ -9,10 +9,11 @@ use Rattle.sas_reader.specs.Walks.{task_of, parts_of}
 use Rattle.candidates.specs.declared.reading.Whole.TheVariants as whole
 use Rattle.driver_run.specs.declared.task_file.TaskFile.{TaskFile}
 use Rattle.driver_run.specs.declared.task_file.TaskFile.TheVariants as file_
-use Rattle.driver_run.specs.declared.report.Why.{Why}
-use Rattle.driver_run.specs.declared.report.Why.TheVariants as why
+use Rattle.run_report.specs.declared.report.Why.{Why}
+use Rattle.run_report.specs.declared.report.Why.TheVariants as why
 use Rattle.driver_run.specs.Reports.{task_in, TellsBytes, TellsFile, TellsTask}
 use Rattle.candidates.specs.Whole.{whole_of}
+use Rattle.run_report.specs.Events.{IsRunToEnd}
 
 too_long_text : (bytes : List ℕ) → length bytes ≡ 268435457 → task_of bytes ≡ Err (TooLarge Bytes 268435457)
 unfolding task_of parts_of
@@ -60,9 +61,11 @@ if_ok_from_both P Q R (Ok x) then_so one other = then_so x one other
 if_ok_from_both P Q R (Err e) then_so one other = tt
 
 -- what is told of the file's task is told by the report on it
-pub told_when_solved : (held : Option (List ℕ)) (parts : Parts) (task : Option Parts) (end : Why) → TellsFile held (file_.Task parts) → task ≡ Some parts → (end ≢ why.Fault → end ≡ why.Finished) → TellsTask held task end
+pub told_when_solved : (held : Option (List ℕ)) (parts : Parts) (task : Option Parts) (end : Why) → TellsFile held (file_.Task parts) → task ≡ Some parts → (end ≢ why.Fault → IsRunToEnd end) → TellsTask held task end
 told_when_solved held parts task why.Finished tells is ends = (tells.0, parts, tells.1, is, tells.2)
-told_when_solved held parts task (why.Words fault) tells is ends = let k : why.Words fault ≡ why.Finished = ends (λ e. cc) in cc
-told_when_solved held parts task (why.NoFile input) tells is ends = let k : why.NoFile input ≡ why.Finished = ends (λ e. cc) in cc
-told_when_solved held parts task (why.Task fault) tells is ends = let k : why.Task fault ≡ why.Finished = ends (λ e. cc) in cc
+told_when_solved held parts task why.PlanLimit tells is ends = (tells.0, parts, tells.1, is, tells.2)
+told_when_solved held parts task (why.Words fault) tells is ends = absurd (ends (λ e. cc))
+told_when_solved held parts task (why.Config bad) tells is ends = absurd (ends (λ e. cc))
+told_when_solved held parts task (why.NoFile input) tells is ends = absurd (ends (λ e. cc))
+told_when_solved held parts task (why.Task fault) tells is ends = absurd (ends (λ e. cc))
 told_when_solved held parts task why.Fault tells is ends = rw is (tells.0, tells.1, tells.2)

@@ -1,5 +1,5 @@
 -- The one turn of a run while its search is on, and how that ended.
-use Rattle.std.specs.Prelude.{◌≡◌, ◌≢◌, ℕ, ◌+◌, ◌*◌, ◌<◌, ◌≤◌, Bool, true, false, List, [], ◌∷◌, ◌++◌, length, All, sum_by, Option, Some, None, is_some, IfSome, Result, Ok, Err, vec_len, vec_capacity}
+use Rattle.std.specs.Prelude.{◌≡◌, ◌≢◌, ℕ, ◌+◌, ◌*◌, ◌<◌, ◌≤◌, Bool, true, false, List, [], ◌∷◌, ◌++◌, length, All, sum_by, Option, Some, None, Result, Ok, Err, vec_len, vec_capacity}
 use Rattle.sas_task.specs.declared.contents.Parts.{Parts}
 use Rattle.sas_task.specs.declared.plans.Kept.{Kept}
 use Rattle.candidates.specs.declared.offers.Candidate.{Candidate}
@@ -9,16 +9,13 @@ use Rattle.conf_text.specs.declared.config.Config.{Config}
 use Rattle.conf_text.specs.Accepted.{IsConfig}
 use Rattle.driver_core.specs.declared.settings.Setting.{Setting}
 use Rattle.driver_core.specs.declared.events.Event.{Event}
-use Rattle.driver_core.specs.Keeping.{bound_of, is_below, kept_costs}
-use Rattle.driver_core.specs.Running.{is_over_after}
-use Rattle.driver_core.specs.Settings.{most_plans}
+use Rattle.driver_core.specs.Keeping.{bound_of, is_below}
 use Rattle.driver_core.specs.Standing.{StandsFor}
 use Rattle.driver_core.specs.States.{CoreState}
 use Rattle.driver_core.specs.Turns.{turn_of, begins_at, offers}
 use Rattle.iterated.specs.Iterating.{Iterating, IsFor}
 use Rattle.search_log.specs.Logs.{Content}
 use Rattle.run_report.specs.declared.report.Outcome.{Outcome}
-use Rattle.run_report.specs.declared.report.Outcome.TheVariants.{Over}
 use Rattle.run_report.specs.declared.report.Past.{Past}
 use Rattle.run_report.specs.Clocks.{has_memory}
 use Rattle.run_report.specs.Turns.{Offered, BegunTurn, ToldTurn, plans_in}
@@ -83,7 +80,7 @@ abbrev pub standing_at : Run → Iterating → Progress → Trail → List Offer
 standing_at run phases progress trail offered found =
     record { next = phases.next; plans = length progress.kept.items; bound = bound_of run.setting (events_of (turns_on trail.began offered)); found = found }
 
--- The search of the turn is on, between two phases: what it has offered is kept, and there is room for more.
+-- The search of the turn is on, between two phases, and what it has offered is kept.
 pub record IsSearching (parts : Parts) (phases : Iterating) (many : Bool) (progress : Progress) (trail : Trail) : Type 0 where
   pub offered : List Offered
   pub found : Bool
@@ -95,7 +92,8 @@ pub record IsSearching (parts : Parts) (phases : Iterating) (many : Bool) (progr
   pub task : IsFor phases parts
   pub numbered : many ≡ phases.config.iterated
   pub going : phases.next ≡ None → found ≡ true
-  pub room : length progress.kept.items < 9999
+  pub full : length progress.kept.items ≡ 9999 → found ≡ true
+  pub one : many ≡ false → length progress.kept.items ≤ 1
   pub alone : many ≡ false → phases.next ≢ None → progress.kept.items ≡ []
   pub few : length trail.past.items ≤ length progress.kept.items + place_of phases.next (length phases.config.phases)
   pub place : place_of phases.next (length phases.config.phases) ≤ length phases.config.phases
@@ -170,12 +168,6 @@ pub record HasPassed (before now : Trail) (item : Past) : Type 0 where
   pub phases : now.phases ≡ before.phases + 1
   pub pops : now.pops ≡ before.pops + past_pops item
   pub past : now.past.items ≡ before.past.items ++ item ∷ []
-
--- the search ended Over where the core says that the run is over
-pub record IsOverOrOn (core : CoreState) (outcome : Option Outcome) : Type 0 where
-  pub over : (events : List Event) → StandsFor core events → is_some outcome ≡ is_over_after core.setting events
-  pub so : IfSome outcome (λ o. o ≡ Over)
-  pub going : (events : List Event) → StandsFor core events → outcome ≡ None → length (kept_costs core.setting events) < most_plans core.setting.single
 
 -- How the turn came to its end, or a call of the folder failed in it, and what the clock was asked.
 abbrev pub HasRunTo : Result (Unit {0}) Stop → Run → Progress → ℕ → ℕ → Option (List ℕ) → Option (List ℕ) → Type 0

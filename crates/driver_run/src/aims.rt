@@ -7,7 +7,7 @@ ghost use Rattle.driver_run.specs.Seen.{seen_work};
 ghost use Rattle.driver_run.specs.Requests.{chosen_of, config_for, is_many as many_test, IsChosen};
 
 use crate::words::Work;
-use conf_text::{Config, ConfError, alias, read};
+use conf_text::{ConfError, Config, alias, read};
 use lama_num::NoMemory;
 use portfolio_text::AliasName;
 use std::alloc::Global;
@@ -28,7 +28,7 @@ pub struct Aim {
 
 /// What a line asks for, with its configuration read.
 pub fn choose(alloc: Global, work: Work<'_>) -> Result<Chosen, ConfError>
-    ensures exact { Gives refusal (λ chosen. chosen) result (chosen_of (seen_work work)) }
+    ensures exact { Gives refusal (λ chosen. chosen) result (chosen_of (seen_work work.entry)) }
     ensures accepted { IfOk result IsChosen }
 {
     match work {

@@ -1,6 +1,6 @@
 // The one entry of a run: its phases, and its end.
 ghost use Rattle.std.specs.Prelude.{◌≡◌, ◌≤◌, ◌<◌, [], IfOk, OnOk, OnErr, Err};
-ghost use Rattle.std.specs.Prelude.{vec_len, vec_capacity};
+ghost use Rattle.std.specs.Prelude.{vec_len, vec_capacity, length, false};
 ghost use Rattle.lama_host.specs.Folder.{Rose};
 ghost use Rattle.lama_host.specs.Steps.{Leaves, Stays};
 ghost use Rattle.plan_manager.specs.Family.{SameOutside};
@@ -115,13 +115,22 @@ fn search_by<F: Folder, C: Clock>(
     ensures stopped { OnErr result (IsStopped
         (run_by task.now phases.config progress.old.core.setting)
         trail.old.began progress.new) }
+    ensures one { many ≡ false → length progress.new.kept.items ≤ 1 }
     ensures ended { IfOk result (HasEnded
         (run_by task.now phases.config progress.old.core.setting)
         progress.new trail.new) }
 {
     let mut phases = phases;
     take_phases(
-        alloc, folder, clock, base, task, many, &mut phases, progress, trail,
+        alloc,
+        folder,
+        clock,
+        base,
+        task,
+        many,
+        &mut phases,
+        progress,
+        trail,
     )
 }
 
@@ -159,6 +168,7 @@ fn search<F: Folder, C: Clock>(
     ensures stopped { OnErr result (IsStopped
         (run_by task.now config.now progress.old.core.setting)
         trail.old.began progress.new) }
+    ensures one { many ≡ false → length progress.new.kept.items ≤ 1 }
     ensures ended { IfOk result (HasEnded
         (run_by task.now config.now progress.old.core.setting)
         progress.new trail.new) }
@@ -194,6 +204,7 @@ pub fn run_entry<F: Folder, C: Clock>(
     ensures outside { OnOk result
         (Leaves (F.told folder.old) (F.told folder.new) (SameOutside base_name)) }
     ensures setting { progress.new.core.setting ≡ progress.old.core.setting }
+    ensures one { many ≡ false → length progress.new.kept.items ≤ 1 }
     ensures ran { HasRunTo result
         (run_by task.now config.now progress.old.core.setting) progress.new
         (C.last clock.old) (C.last clock.new) (C.answers clock.old) (C.answers clock.new) }

@@ -10,7 +10,5 @@ mod task_file;
 mod words;
 
 pub use candidates::{Candidate, Found, ReadError, Whole, read_whole};
-pub use run_report::{
-    Ended, EntryEnd, Input, Opt, Outcome, Past, Report, Why, WordsFault,
-};
+pub use run_report::{Ended, EntryEnd, Input, Opt, Outcome, Past, Report, Why, WordsFault};
 pub use running::run;

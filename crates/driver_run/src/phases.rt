@@ -1,18 +1,13 @@
 // The phases of an entry, one after another.
 ghost use Rattle.std.specs.Prelude.{◌≡◌, ◌≢◌, ◌+◌, ◌<◌, ◌≤◌, ◌^◌, [], ◌∷◌, ◌++◌, IfOk, IfSome};
 ghost use Rattle.std.specs.Prelude.{OnOk, OnErr, Ok, Err, None, Some, true, false, length};
-ghost use Rattle.std.specs.Prelude.{vec_len, vec_capacity};
 ghost use Rattle.lama_host.specs.Folder.{Rose};
 ghost use Rattle.lama_host.specs.Steps.{Leaves, Stays};
 ghost use Rattle.plan_manager.specs.Family.{SameOutside};
-ghost use Rattle.iterated.specs.Ends.{EndsFrom, next_from};
-ghost use Rattle.iterated.specs.declared.ends.PhaseEnd.{PhaseEnd as TheEnd};
-ghost use Rattle.phase_ends.specs.Ends.{begun};
-ghost use Rattle.run_report.specs.Clocks.{has_memory};
 ghost use Rattle.driver_run.specs.Words.{base_name};
 ghost use Rattle.driver_run.specs.Searching.{run_by, IsSearching, HasEnded, IsStopped};
 ghost use Rattle.driver_run.specs.Searching.{AsksNoMore, phase_memory, search_memory};
-ghost use Rattle.driver_run.specs.Searching.{HasSame, HasKept, HasCounted, HasPassed, IsOverOrOn};
+ghost use Rattle.driver_run.specs.Searching.{HasSame, HasKept, HasCounted, HasPassed};
 
 use crate::progress::{ENTRY, Progress, ROUND, Stop, Trail};
 use candidates::{ReadError, keep_candidate};
@@ -72,8 +67,8 @@ fn keep_plan<F: Folder>(
     )
 }
 
-/// Takes the plan that a phase found in. The room for all that is kept of it is taken before its
-/// text is written. The search is over where as many plans are kept as a run keeps.
+/// Takes in the plan that a phase found. The room for all that is kept of it is taken before its
+/// text is written.
 fn take_plan<F: Folder>(
     folder: &mut F,
     base: &NameBuf,
@@ -84,7 +79,7 @@ fn take_plan<F: Folder>(
     log: Log,
     progress: &mut Progress,
     trail: &mut Trail,
-) -> Result<Option<Outcome>, Stop>
+) -> Result<(), Stop>
     requires idle { (F.told folder.old).busy ≡ [] }
     requires base { base.now ≡ base_name }
     requires room { length progress.old.kept.items < 9999 }
@@ -104,7 +99,6 @@ fn take_plan<F: Folder>(
         (HasKept progress.old progress.new (record { entry = 1; ops = ops; cost = cost })) }
     ensures passed { OnOk result (HasPassed trail.old trail.new
         (Past.Plan (length progress.old.kept.items) log)) }
-    ensures over { IfOk result (λ outcome. IsOverOrOn progress.new.core outcome) }
 {
     if trail.past.reserve(1).is_err() {
         return Err(Stop::NoMemory);
@@ -116,11 +110,7 @@ fn take_plan<F: Folder>(
         Ok(()) => {
             trail.count(&log);
             trail.past.push_reserved(Past::Plan { index, log });
-            Ok(if progress.core.is_over() {
-                Some(Outcome::Over)
-            } else {
-                None
-            })
+            Ok(())
         }
     }
 }
@@ -138,7 +128,9 @@ fn pass_by(space: Space, bound: u64, log: Log, trail: &mut Trail) -> Result<(), 
         return Err(Stop::NoMemory);
     }
     trail.count(&log);
-    trail.past.push_reserved(Past::Unsolved { space, bound, log });
+    trail
+        .past
+        .push_reserved(Past::Unsolved { space, bound, log });
     Ok(())
 }
 
@@ -234,14 +226,22 @@ fn take_phase<F: Folder, C: Clock>(
     ensures goes_on { result ≡ Ok None
         → IsSearching task.now phases.new many progress.new trail.new
         × (length trail.new.past.items ≡ length trail.old.past.items + 1) }
+    ensures one { many ≡ false → length progress.new.kept.items ≤ 1 }
     ensures ended { IfOk result (λ outcome. IfSome outcome (HasEnded
         (run_by task.now phases.old.config progress.old.core.setting)
         progress.new trail.new)) }
 {
+    let _metric = task.parts().metric;
+    if progress.core.is_over() {
+        return Ok(Some(Outcome::Over));
+    }
     let bound = progress.core.bound();
     match phases.next_phase(alloc, task, bound, None, clock) {
         PhaseEnd::Plan { ops, cost, log } => {
-            take_plan(folder, base, task, many, ops, cost, log, progress, trail)
+            match take_plan(folder, base, task, many, ops, cost, log, progress, trail) {
+                Ok(()) => Ok(None),
+                Err(stop) => Err(stop),
+            }
         }
         PhaseEnd::Unsolvable { space, log } => Ok(Some(take_unsolvable(space, log, trail))),
         PhaseEnd::Best { space, log } => match bound {
@@ -291,6 +291,7 @@ pub fn take_phases<F: Folder, C: Clock>(
     ensures stopped { OnErr result (IsStopped
         (run_by task.now phases.old.config progress.old.core.setting)
         trail.old.began progress.new) }
+    ensures one { many ≡ false → length progress.new.kept.items ≤ 1 }
     ensures ended { IfOk result (HasEnded
         (run_by task.now phases.old.config progress.old.core.setting)
         progress.new trail.new) }

@@ -99,7 +99,7 @@ impl Trail {
         ensures began { self.new.began ≡ self.old.began }
         ensures phases { self.new.phases ≡ self.old.phases + 1 }
         ensures pops { self.new.pops ≡ self.old.pops + length log.now.pops }
-        ensures past { self.new.past.items ≡ self.old.past.items }
+        ensures past { self.new.past ≡ self.old.past }
     {
         self.phases += 1;
         self.pops += log.pops() as u64;

@@ -29,9 +29,9 @@ use crate::aims::{Aim, choose};
 use crate::entry::run_entry;
 use crate::progress::{Progress, Stop};
 use crate::task_file::{TaskFile, read_task};
-use crate::words::{BASE, Line, line};
+use crate::words::{BASE, Line, read_line};
 use candidates::Candidate;
-use conf_text::{Config, ConfError};
+use conf_text::{ConfError, Config};
 use lama_host::{Clock, Failed, Folder, Host, Sink};
 use lama_num::{NameBuf, NoMemory, Seq};
 use plan_manager::{clear, seal};
@@ -173,6 +173,7 @@ fn finish<F: Folder>(
 ) -> Left
     requires idle { (F.told folder.old).busy ≡ [] }
     requires base { base.now ≡ base_name }
+    requires one { many ≡ false → length progress.kept.items ≤ 1 }
     requires ran { (config : TheConfig) × (turn : ToldTurn)
         × HasRun (run_by task.now config progress.core.setting) progress turn }
     ensures stays { Stays (F.told folder.old) (F.told folder.new) }
@@ -222,7 +223,14 @@ fn run_on<F: Folder, C: Clock>(
 {
     let mut progress = progress;
     match run_entry(
-        alloc, folder, clock, base, task, many, config, &mut progress,
+        alloc,
+        folder,
+        clock,
+        base,
+        task,
+        many,
+        config,
+        &mut progress,
     ) {
         Ok(()) => Ok(finish(folder, base, task, many, progress)),
         Err(Stop::Fault) => Ok(leave(progress, Why::Fault, 35)),
@@ -290,9 +298,7 @@ fn run_aim<F: Folder, C: Clock>(
     let Aim { chosen, bound } = aim;
     let many = chosen.is_many();
     match chosen.into_config(alloc, task.is_unit_cost()) {
-        Ok(config) => run_config(
-            alloc, folder, clock, base, task, many, config, bound, start,
-        ),
+        Ok(config) => run_config(alloc, folder, clock, base, task, many, config, bound, start),
         Err(NoMemory) => Err(NoMemory),
     }
 }
@@ -365,7 +371,8 @@ fn run_file<F: Folder, C: Clock>(
         Err(NoMemory) => Err(NoMemory),
         Ok(TaskFile::Task(task)) => run_on_task(alloc, folder, clock, base, task, aim, start),
         Ok(TaskFile::Missing) => {
-            Ok(stopped(alloc, many, start, Why::NoFile(Input::Task), 36))
+            let why = Why::NoFile(Input::Task);
+            Ok(stopped(alloc, many, start, why, 36))
         }
         Ok(TaskFile::Refused(fault)) => {
             let code = task_code(fault);
@@ -426,11 +433,11 @@ fn run_line<F: Folder, C: Clock>(
 ) -> Ended
     requires idle { (F.told folder.old).busy ≡ [] }
     requires name { is_own_name base_name line.task.now ≡ false }
-    ensures refused { (bad : TheBad) → chosen_of (seen_work line.work) ≡ Err bad →
+    ensures refused { (bad : TheBad) → chosen_of (seen_work line.entry.work) ≡ Err bad →
         (folder.new ≡ folder.old) × (clock.new ≡ clock.old)
         × IfDone result (λ report. report ≡ the_refusal (Why.Config bad)) }
-    ensures accepted { (chosen : TheChosen) → chosen_of (seen_work line.work) ≡ Ok chosen →
-        IfDone result (IsRunOn (record { chosen = chosen; bound = line.bound }) line.task.now
+    ensures accepted { (chosen : TheChosen) → chosen_of (seen_work line.entry.work) ≡ Ok chosen →
+        IfDone result (IsRunOn (record { chosen = chosen; bound = line.entry.bound }) line.entry.task.now
         (F.told folder.old) (F.told folder.new)
         (C.last clock.old) (C.last clock.new) (C.answers clock.old) (C.answers clock.new)) }
     ensures stays { Stays (F.told folder.old) (F.told folder.new) }
@@ -477,7 +484,7 @@ pub fn run<H: Host, C: Clock, O: Sink>(
         (C.last clock.old) (C.last clock.new) (C.answers clock.old) (C.answers clock.new) result }
     ensures quiet { out.new ≡ out.old }
 {
-    match line(words) {
+    match read_line(words) {
         Err(fault) => Ended::Done(refusal(alloc, Why::Words(fault))),
         Ok(line) => run_line(alloc, host, clock, line),
     }

@@ -143,7 +143,7 @@ fn behind<'a>(option: &str, words: &'a [String]) -> &'a [String]
 
 /// The bound that a text is.
 fn bound(text: Option<&str>) -> Result<Option<u64>, WordsFault>
-    ensures { result ≡ bound_of (text_of text) }
+    ensures { result ≡ bound_of (text_of text.entry) }
 {
     match text {
         None => Ok(None),
@@ -155,9 +155,9 @@ fn bound(text: Option<&str>) -> Result<Option<u64>, WordsFault>
 }
 
 /// The work of a line with this alias or this configuration; `lama` where it has neither.
-fn work<'a>(alias: Option<&str>, search: Option<&'a str>) -> Result<Work<'a>, WordsFault>
+fn work_by<'a>(alias: Option<&str>, search: Option<&'a str>) -> Result<Work<'a>, WordsFault>
     ensures { result_map_both seen_work (λ fault. fault) result
-        ≡ work_of (text_of alias) (text_of search) }
+        ≡ work_of (text_of alias.entry) (text_of search.entry) }
 {
     match search {
         Some(text) => Ok(Work::Search(text)),
@@ -176,10 +176,11 @@ fn asked<'a>(
     task: &'a str,
 ) -> Result<Line<'a>, WordsFault>
     ensures { result_map_both seen (λ fault. fault) result
-        ≡ asked_of (text_of alias) (text_of search) (text_of limit) task.now }
+        ≡ asked_of (text_of alias.entry) (text_of search.entry)
+        (text_of limit.entry) task.now }
 {
     let bound = bound(limit)?;
-    let work = work(alias, search)?;
+    let work = work_by(alias, search)?;
     if is_own_name(task.as_bytes()) {
         return Err(WordsFault::NameClash);
     }
@@ -187,7 +188,7 @@ fn asked<'a>(
 }
 
 /// What the words ask for, or what is wrong with them.
-pub fn line(words: &[String]) -> Result<Line<'_>, WordsFault>
+pub fn read_line(words: &[String]) -> Result<Line<'_>, WordsFault>
     ensures { result_map_both seen (λ fault. fault) result
         ≡ line_of (map string_bytes words.now) }
 {

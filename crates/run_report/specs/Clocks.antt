@@ -1,6 +1,5 @@
 -- What a run asked of the clock.
 use Rattle.std.specs.Prelude.{◌≡◌, ℕ, ◌≤◌, Bool, true, false, List, [], ◌∷◌, ◌++◌, map, All, Option, Some}
-use Rattle.run_report.specs.declared.report.EntryEnd.{EntryEnd}
 use Rattle.run_report.specs.declared.report.Outcome.{Outcome}
 use Rattle.run_report.specs.declared.report.Outcome.TheVariants.{Best, Unsolvable, Unsolved, Over, Limit, NoMemory}
 use Rattle.run_report.specs.declared.report.Report.{Report}

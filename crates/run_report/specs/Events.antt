@@ -1,5 +1,5 @@
 -- A run as a list of events, and its exit code.
-use Rattle.std.specs.Prelude.{◌≡◌, ◌≢◌, ◌↔◌, ℕ, nat_lt, Bool, true, false, List, [], ◌∷◌, ◌++◌, length, map, take, Option, None}
+use Rattle.std.specs.Prelude.{◌≡◌, ◌≢◌, ℕ, nat_lt, true, List, [], ◌∷◌, ◌++◌, length, map, take, None}
 use Rattle.sas_task.specs.declared.plans.Kept.{Kept}
 use Rattle.sas_reader.specs.declared.faults.SasFault.{SasFault}
 use Rattle.sas_reader.specs.declared.faults.SasFault.TheVariants as fault

@@ -1,5 +1,5 @@
 -- How the phases of an entry follow one another, and how it ends.
-use Rattle.std.specs.Prelude.{◌≡◌, ℕ, ◌+◌, ◌<◌, ◌≤◌, nat_lt, Bool, true, false, if◌then◌else◌, List, [], ◌∷◌, length, map, All, sum_by, slice_get, Option, Some, None, last_or, ◌⊎◌}
+use Rattle.std.specs.Prelude.{◌≡◌, ℕ, ◌+◌, ◌<◌, ◌≤◌, nat_lt, Bool, true, false, if◌then◌else◌, List, [], ◌∷◌, length, All, sum_by, slice_get, Option, Some, None, ◌⊎◌}
 use Rattle.sas_task.specs.declared.contents.Parts.{Parts}
 use Rattle.sas_task.specs.declared.plans.Kept.{Kept}
 use Rattle.sas_task.specs.Runs.{IsPlan, cost_of}
@@ -17,10 +17,9 @@ use Rattle.search_log.specs.declared.setting.LimitHit.TheVariants.{Time, Pops, S
 use Rattle.search_log.specs.Phases.{Phase as SearchPhase}
 use Rattle.search_log.specs.Rooms.{room, assignments}
 use Rattle.iterated.specs.declared.ends.PhaseEnd.{PhaseEnd}
-use Rattle.iterated.specs.declared.ends.PhaseEnd.TheVariants as phase
+use Rattle.iterated.specs.declared.ends.PhaseEnd.TheVariants as ended
 use Rattle.iterated.specs.Searches.{search_phase}
 use Rattle.iterated.specs.Ends.{EndsFrom, next_from}
-use Rattle.run_report.specs.declared.report.EntryEnd.{EntryEnd}
 use Rattle.run_report.specs.declared.report.Past.{Past}
 use Rattle.run_report.specs.declared.report.Past.TheVariants as item
 use Rattle.run_report.specs.declared.report.Outcome.{Outcome}
@@ -59,11 +58,11 @@ Went search at [] [] to = at ≡ to
 Went search at [] (plan ∷ plans) to = ⊥
 Went search at (item.Plan index log ∷ more) [] to = ⊥
 Went search at (item.Plan index log ∷ more) (plan ∷ plans) to =
-    (index ≡ at.plans) × Ends search at (phase.Plan plan.ops plan.cost log)
-    × Went search (after_plan search at plan.cost (phase.Plan plan.ops plan.cost log)) more plans to
+    (index ≡ at.plans) × Ends search at (ended.Plan plan.ops plan.cost log)
+    × Went search (after_plan search at plan.cost (ended.Plan plan.ops plan.cost log)) more plans to
 Went search at (item.Unsolved space bound log ∷ more) plans to =
-    (at.bound ≡ Some bound) × Ends search at (phase.Unsolved space log false)
-    × Went search (after_space search at (phase.Unsolved space log false)) more plans to
+    (at.bound ≡ Some bound) × Ends search at (ended.Unsolved space log false)
+    × Went search (after_space search at (ended.Unsolved space log false)) more plans to
 
 -- what a limit shows: there was room for more
 abbrev pub HadRoom : SearchPhase → LimitHit → Type 0
@@ -91,11 +90,11 @@ HasNoCheaperPlan parts bound = (ops : List ℕ) → IsPlan parts ops → bound �
 -- How the entry ends where its search stands: with what the next phase shows; or since no phase is next after a plan, or the run keeps no
 -- more plans; or for want of memory.
 abbrev pub EndsBy : Search → Standing → Outcome → Type 0
-EndsBy search at (Best space bound log) = (at.bound ≡ Some bound) × Ends search at (phase.Best space log) × HasNoCheaperPlan search.parts bound
-EndsBy search at (Unsolvable space log) = (at.bound ≡ None) × Ends search at (phase.Unsolvable space log) × HasNoPlan search.parts
-EndsBy search at (Unsolved space bound log) = (at.bound ≡ Some bound) × Ends search at (phase.Unsolved space log true)
+EndsBy search at (Best space bound log) = (at.bound ≡ Some bound) × Ends search at (ended.Best space log) × HasNoCheaperPlan search.parts bound
+EndsBy search at (Unsolvable space log) = (at.bound ≡ None) × Ends search at (ended.Unsolvable space log) × HasNoPlan search.parts
+EndsBy search at (Unsolved space bound log) = (at.bound ≡ Some bound) × Ends search at (ended.Unsolved space log true)
 EndsBy search at Over = (at.found ≡ true) × ((at.next ≡ None) ⊎ (at.plans ≡ search.most))
-EndsBy search at (Limit hit log) = IsLimited search at hit (phase.Limit hit log)
+EndsBy search at (Limit hit log) = IsLimited search at hit (ended.Limit hit log)
 EndsBy search at NoMemory = Unit {0}
 
 -- how many phases were begun beside those of the past

@@ -1,5 +1,5 @@
 -- What the lists of a report tell: turns that have ended, and perhaps one that was still on.
-use Rattle.std.specs.Prelude.{◌≡◌, ℕ, List, [], ◌∷◌, ◌++◌, map, Option, Some, None}
+use Rattle.std.specs.Prelude.{◌≡◌, List, [], ◌∷◌, ◌++◌, map, Option, Some, None}
 use Rattle.sas_task.specs.declared.plans.Kept.{Kept}
 use Rattle.candidates.specs.declared.offers.Candidate.{Candidate}
 use Rattle.driver_core.specs.declared.events.Event.{Event}
@@ -11,6 +11,14 @@ use Rattle.run_report.specs.Turns.{BegunTurn, ToldTurn, begun_of, plans_of, cand
 pub record Turns : Type 0 where
   pub ended : List ToldTurn
   pub present : Option BegunTurn
+
+-- between two of them
+abbrev pub between : List ToldTurn → Turns
+between ended = record { ended = ended; present = None }
+
+-- while one is on
+abbrev pub during : List ToldTurn → BegunTurn → Turns
+during ended begun = record { ended = ended; present = Some begun }
 
 abbrev pub present_of : Option BegunTurn → List BegunTurn
 present_of None = []

@@ -30,6 +30,18 @@ pub record ToldTurn : Type 0 where
   pub end : EntryEnd
   pub offered : List Offered
 
+-- it begins, with nothing offered
+abbrev pub begun_at : Turn → ℕ → BegunTurn
+begun_at turn began = record { turn = turn; began = began; offered = [] }
+
+-- it offers once more
+abbrev pub offered_more : BegunTurn → Offered → BegunTurn
+offered_more begun offer = record { turn = begun.turn; began = begun.began; offered = begun.offered ++ offer ∷ [] }
+
+-- a good one
+abbrev pub good_offer : Option ℕ → List ℕ → ℕ → Offered
+good_offer file ops cost = record { file = file; verdict = Good ops cost }
+
 abbrev pub begun_of : ToldTurn → BegunTurn
 begun_of told = record { turn = turn_of told.end.round told.end.entry; began = told.end.began; offered = told.offered }
 

@@ -29,11 +29,12 @@ pub fn report_of(alloc: Global, words: &[&str], host: &mut MemHost) -> Result<Re
     }
 }
 
-/// A folder with old plans, other files, and perhaps the task, of which one call may fail.
+/// A folder with old plans, other files, and perhaps the task, of which one call may fail: the one
+/// of this kind with this number.
 pub fn folder(
     alloc: Global,
     task: Option<&str>,
-    failing: Option<HostCall>,
+    failing: Option<(HostCall, u32)>,
 ) -> Result<MemHost, AllocError>
     ensures { IfOk result (λ host. (told_of host).busy ≡ []) }
 {
@@ -47,10 +48,10 @@ pub fn folder(
         files.push(named(alloc, "t.sas", text.as_bytes())?)?;
     }
     let mut fails = Vec::new(alloc);
-    if let Some(call) = failing {
+    if let Some((call, number)) = failing {
         fails.push(Failing {
             call,
-            number: 1,
+            number,
             after: false,
         })?;
     }
@@ -66,11 +67,24 @@ pub fn has(host: &MemHost, name: &str, text: Option<&str>) -> bool {
     }
 }
 
-/// Whether just the one plan is left of the plan files, and all other files are as before.
-pub fn is_sealed(host: &MemHost, plan: Option<&str>) -> bool {
+/// Whether all files that aren't plan files are as before, and no plan has another number than 1 or
+/// 2.
+fn is_sealed(host: &MemHost) -> bool {
     let gone = has(host, "sas_plan.4", None) && has(host, "sas_plan.part", None);
     let kept = has(host, "sas_plan.07", Some("old")) && has(host, "other", Some("old"));
-    has(host, "sas_plan", plan) && gone && kept
+    gone && kept && has(host, "sas_plan.3", None)
+}
+
+/// Whether just these numbered plans are left of the plan files, and all other files are as before.
+pub fn holds(host: &MemHost, first: Option<&str>, second: Option<&str>) -> bool {
+    let plans = has(host, "sas_plan.1", first) && has(host, "sas_plan.2", second);
+    plans && has(host, "sas_plan", None) && is_sealed(host)
+}
+
+/// Whether just the one plan is left of them.
+pub fn holds_one(host: &MemHost, plan: &str) -> bool {
+    let others = has(host, "sas_plan.1", None) && has(host, "sas_plan.2", None);
+    has(host, "sas_plan", Some(plan)) && others && is_sealed(host)
 }
 
 /// A read of a file of five bytes, with this limit.

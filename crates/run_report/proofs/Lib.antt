@@ -1,0 +1,6 @@
+mod Codes
+mod Completing
+mod Going
+mod Lists
+mod Phasing
+mod Planning
