@@ -1,4 +1,6 @@
-pub mod Found
+pub mod Asking
+pub mod Closing
+pub mod Finding
 pub mod Going
 pub mod Leaving
 pub mod OwnNames

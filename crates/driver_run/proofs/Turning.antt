@@ -5,12 +5,18 @@ use Rattle.std.proofs.lemmas.List.{map-append, length-map}
 use Rattle.std.proofs.lemmas.List.Elements.{filter_map-append, All-cons, All-nil}
 use Rattle.std.proofs.lemmas.List.Folds.{list_any-append}
 use Rattle.std.proofs.Math.Bool.{or-false}
+use Rattle.std.proofs.lemmas.Bool.Decides.{nat_tests}
 use Rattle.sas_task.specs.declared.contents.Parts.{Parts}
 use Rattle.sas_task.specs.declared.plans.Kept.{Kept}
 use Rattle.plan_check.specs.declared.verdicts.Verdict.TheVariants.{Good}
 use Rattle.candidates.specs.declared.offers.Candidate.{Candidate}
 use Rattle.driver_core.specs.declared.events.Event.{Event}
 use Rattle.driver_core.specs.declared.settings.Setting.{Setting}
+use Rattle.driver_core.specs.Keeping.{kept_costs}
+use Rattle.driver_core.specs.Laws.{kept_costs-few}
+use Rattle.driver_core.specs.Rounds.{round_in, is_last_round, has_last_round}
+use Rattle.driver_core.specs.Running.{is_out_of_time, is_last_end, is_over_after}
+use Rattle.driver_core.specs.Settings.{most_plans}
 use Rattle.driver_core.specs.Turns.{Turn, turn_of, begins_at, is_end_of, IsOn}
 use Rattle.run_report.specs.Turns.{Offered, BegunTurn, offer_of, plan_of, plans_in, plans_of, candidate_of, candidates_among, candidates_in, candidates_of, events_in}
 use Rattle.run_report.specs.Tells.{events_of, all_begun, AreOfTurns}
@@ -90,3 +96,30 @@ no_end (offer ∷ offered) = no_end offered
 -- the turn is on
 pub is_on : (began : ℕ) (offered : List Offered) → IsOn (events_of (turns_on began offered)) the_turn
 is_on began offered = record { begun = refl; unended = no_end offered }
+
+no_time : (offered : List Offered) → list_any is_out_of_time (map (offer_of the_turn) offered) ≡ false
+no_time [] = refl
+no_time (offer ∷ offered) = no_time offered
+
+no_last : (offered : List Offered) → list_any is_last_end (map (offer_of the_turn) offered) ≡ false
+no_last [] = refl
+no_last (offer ∷ offered) = no_last offered
+
+no_round : (offered : List Offered) → filter_map round_in (map (offer_of the_turn) offered) ≡ []
+no_round [] = refl
+no_round (offer ∷ offered) = no_round offered
+
+-- while the turn is on the run is over where as many plans are kept as a run keeps
+pub over_full : (setting : Setting) (began : ℕ) (offered : List Offered) → setting.single ≡ false → is_over_after setting (events_of (turns_on began offered)) ≡ true →
+    length (kept_costs setting (events_of (turns_on began offered))) ≡ 9999
+over_full setting began offered many over =
+    let n = length (kept_costs setting (events_of (turns_on began offered))) in
+    let last : has_last_round setting (events_of (turns_on began offered)) ≡ false = ap (list_any (is_last_round setting (events_of (turns_on began offered)))) (no_round offered) in
+    let full : (nat_le (most_plans setting.single) n || false) ≡ true = rw (no_time offered, no_last offered, last) at over in
+    let full_so : (nat_le 9999 n || false) ≡ true = rw many at full in
+    let most : n ≤ most_plans setting.single = kept_costs-few setting (events_of (turns_on began offered)) in
+    let most_so : n ≤ 9999 = rw many at most in
+    both n full_so most_so
+  where
+    both : (n : ℕ) → (nat_le 9999 n || false) ≡ true → n ≤ 9999 → n ≡ 9999
+    both n full most = let least : nat_le 9999 n ≡ true = sym (or-false (nat_le 9999 n)) ∙ full in grind (arith, nat_tests, least, most)

@@ -22,7 +22,7 @@ use exit_codes::Part;
 use iterated::Iterated;
 use lama_host::{Clock, Folder};
 use lama_num::{NameBuf, NoMemory};
-use run_report::Outcome;
+use run_report::{Outcome, a_turn_ends};
 use sas_task::Task;
 use std::alloc::Global;
 
@@ -76,6 +76,7 @@ fn end(progress: &mut Progress, trail: Trail, outcome: Outcome)
         (turn : ToldTurn) × (turn.end.outcome ≡ outcome) × (turn.end.began ≡ trail.began)
         × HasRun (run_by parts config progress.old.core.setting) progress.new turn }
 {
+    a_turn_ends();
     progress.core.step(Event::Ended {
         round: ROUND,
         entry: ENTRY,

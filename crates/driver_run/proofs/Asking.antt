@@ -1,0 +1,91 @@
+-- What the clock was asked in a phase, and in a turn.
+use Rattle.std.proofs.Common.{◌≡◌, ◌≢◌, ◌∙◌, sym, ap, subst, refl, ℕ, zero, suc, List, [], ◌∷◌, ◌++◌, Bool, true, false, slice_get, Option, Some, None, append-nil}
+use Rattle.sas_task.specs.declared.contents.Parts.{Parts}
+use Rattle.conf_text.specs.declared.config.Config.{Config}
+use Rattle.phase_ends.specs.Ends.{begun}
+use Rattle.search_log.specs.declared.turns.Pop.{Pop}
+use Rattle.search_log.specs.Phases.{Phase as SearchPhase}
+use Rattle.search_log.specs.ClockLaws.{no_answers}
+use Rattle.lazy_search.specs.declared.end.SearchEnd.{SearchEnd}
+use Rattle.lazy_search.specs.declared.end.SearchEnd.TheVariants as search
+use Rattle.lazy_search.specs.Ends.{IsAnswered, ClockHolds, TellsOn}
+use Rattle.iterated.specs.declared.ends.PhaseEnd.{PhaseEnd}
+use Rattle.iterated.specs.declared.ends.PhaseEnd.TheVariants.{Plan, Unsolvable, Best, Unsolved, Limit, Over, NoMemory}
+use Rattle.iterated.specs.Ends.{EndsFrom, PhaseEnds, AsksFrom, search_end}
+use Rattle.iterated.specs.Searches.{search_phase}
+use Rattle.driver_run.specs.Searching.{AsksNoMore}
+
+same_asks : (before after : Option (List ℕ)) → after ≡ before → AsksNoMore true before after
+same_asks before after same = record { answers = λ all told. (all, [], sym same ∙ told, sym (append-nil all), λ memory. refl) }
+
+-- without a stop the clock isn't asked
+unasked_by : (phase : SearchPhase) (pops : List Pop) (moment : Option ℕ) (before after : Option (List ℕ)) → phase.setting.stop ≡ None → IsAnswered phase pops moment before after → AsksNoMore true before after
+unasked_by phase pops moment before after never is = record {
+  answers = λ all told.
+      let a = is.answered all told in
+      (a.0, a.1, a.2, a.3, λ memory. (no_answers phase pops moment a.1 a.4 never).0);
+}
+
+unasked : (phase : SearchPhase) (before after : Option (List ℕ)) (end : SearchEnd) → phase.setting.stop ≡ None → (end ≡ search.NoMemory → ⊥) → ClockHolds phase before after end → AsksNoMore true before after
+unasked phase before after (search.Plan ops cost log) never some is = unasked_by phase log.pops _ before after never is
+unasked phase before after (search.Unsolvable space log) never some is = unasked_by phase log.pops _ before after never is
+unasked phase before after (search.Unsolved space log) never some is = unasked_by phase log.pops _ before after never is
+unasked phase before after (search.Limit hit log) never some is = unasked_by phase log.pops _ before after never is
+unasked phase before after search.NoMemory never some is = absurd (some refl)
+
+-- an end with memory has a search with memory, unless it is over
+searched : (end : PhaseEnd) → (end ≡ NoMemory → ⊥) → (end ≡ Over → ⊥) → search_end end ≡ search.NoMemory → ⊥
+searched (Plan ops cost log) memory over is = cc
+searched (Unsolvable space log) memory over is = cc
+searched (Best space log) memory over is = cc
+searched (Unsolved space log last) memory over is = cc
+searched (Limit hit log) memory over is = cc
+searched Over memory over is = over refl
+searched NoMemory memory over is = memory refl
+
+not_over : (parts : Parts) (config : Config) (place : ℕ) (bound : Option ℕ) (end : PhaseEnd) → PhaseEnds parts config place bound None end → end ≡ Over → ⊥
+not_over parts config place bound (Plan ops cost log) is same = cc
+not_over parts config place bound (Unsolvable space log) is same = cc
+not_over parts config place bound (Best space log) is same = cc
+not_over parts config place bound (Unsolved space log last) is same = cc
+not_over parts config place bound (Limit hit log) is same = cc
+not_over parts config place bound Over is same = is.concludes
+not_over parts config place bound NoMemory is same = cc
+
+asked_in : (parts : Parts) (config : Config) (place : ℕ) (bound : Option ℕ) (end : PhaseEnd) (before after : Option (List ℕ)) → (end ≡ NoMemory → ⊥) → (is : PhaseEnds parts config place bound None end) →
+    ClockHolds (search_phase parts is.phase bound None) before after (search_end end) → AsksNoMore true before after
+asked_in parts config place bound end before after memory is asks =
+    unasked (search_phase parts is.phase bound None) before after (search_end end) refl (searched end memory (not_over parts config place bound end is)) asks
+
+pub asked : (parts : Parts) (config : Config) (next bound : Option ℕ) (end : PhaseEnd) (before after : Option (List ℕ)) → (end ≡ NoMemory → ⊥) →
+    EndsFrom parts config bound None (begun next bound) end → AsksFrom parts config bound None (begun next bound) before after end → AsksNoMore true before after
+asked parts config None bound end before after memory is asks = same_asks before after asks
+asked parts config (Some place) None end before after memory is asks = asked_in parts config place None end before after memory is (asks is.phase is.at)
+asked parts config (Some place) (Some zero) end before after memory is asks = same_asks before after asks
+asked parts config (Some place) (Some (suc n)) end before after memory is asks = asked_in parts config place (Some (suc n)) end before after memory is (asks is.phase is.at)
+
+-- where memory may have been wanting
+pub asks_any : (memory : Bool) (before after : Option (List ℕ)) → AsksNoMore true before after → AsksNoMore memory before after
+asks_any memory before after is = record {
+  answers = λ all told.
+      let a = is.answers all told in
+      (a.0, a.1, a.2, a.3, λ m. a.4 refl);
+}
+
+pub asks_short : (before after : Option (List ℕ)) → TellsOn before after → AsksNoMore false before after
+asks_short before after is = record {
+  answers = λ all told.
+      let a = is.front all told in
+      (a.0, a.1, a.2, a.3, λ m. let k : false ≡ true = m in cc);
+}
+
+pub asks_none : (told : Option (List ℕ)) → AsksNoMore true told told
+asks_none told = same_asks told told refl
+
+pub asks_then : (memory : Bool) (before mid after : Option (List ℕ)) → AsksNoMore true before mid → AsksNoMore memory mid after → AsksNoMore memory before after
+asks_then memory before mid after one two = record {
+  answers = λ all told.
+      let b = two.answers all told in
+      let a = one.answers b.0 b.2 in
+      (a.0, b.1, a.2, b.3 ∙ ap (λ front. front ++ b.1) (a.3 ∙ ap (λ more. a.0 ++ more) (a.4 refl) ∙ append-nil a.0), b.4);
+}

@@ -1,0 +1,81 @@
+-- The search of the turn ends.
+use Rattle.std.proofs.Common.{◌≡◌, ◌≢◌, ◌∙◌, sym, ap, subst, refl, ℕ, ◌+◌, ◌<◌, zero, suc, List, [], length, Bool, true, false, sum_by, nat_lt, if◌then◌else◌, Option, Some, None, arith, inl, inr}
+use Rattle.sas_task.specs.declared.contents.Parts.{Parts}
+use Rattle.sas_task.specs.declared.plans.Kept.{Kept}
+use Rattle.driver_core.specs.Running.{is_over_after}
+use Rattle.driver_core.specs.Settings.{most_plans}
+use Rattle.std.proofs.lemmas.List.{length-map}
+use Rattle.driver_run.proofs.Turning.{over_full}
+use Rattle.phase_ends.specs.Ends.{begun}
+use Rattle.search_log.specs.Logs.{Content}
+use Rattle.search_log.specs.Members.{Member}
+use Rattle.iterated.specs.declared.ends.PhaseEnd.{PhaseEnd}
+use Rattle.iterated.specs.declared.ends.PhaseEnd.TheVariants as ended
+use Rattle.iterated.specs.Ends.{EndsFrom}
+use Rattle.iterated.specs.Iterating.{Iterating}
+use Rattle.run_report.specs.declared.report.Outcome.{Outcome}
+use Rattle.run_report.specs.declared.report.Outcome.TheVariants.{Best, Unsolvable, Unsolved, Over, Limit, NoMemory}
+use Rattle.run_report.specs.Tells.{events_of}
+use Rattle.run_report.specs.Searches.{EndsBy, CountsPhases, search_of, past_pops, last_pops, HasNoPlan, HasNoCheaperPlan}
+use Rattle.driver_run.specs.declared.progress.Progress.{Progress}
+use Rattle.driver_run.specs.declared.progress.Trail.{Trail}
+use Rattle.driver_run.specs.Searching.{run_by, turns_on, standing_at, CameTo, IsSearching, HasEnded, HasCounted}
+
+-- with an outcome at which the search ends where it stands
+pub ends_by : (parts : Parts) (phases : Iterating) (many : Bool) (progress : Progress) (trail more : Trail) (outcome : Outcome) → (is : IsSearching parts phases many progress trail) →
+    more.began ≡ trail.began → more.past.items ≡ trail.past.items →
+    EndsBy (search_of (run_by parts phases.config progress.core.setting) 1) (standing_at (run_by parts phases.config progress.core.setting) phases progress trail is.offered is.found) outcome →
+    CountsPhases outcome (length trail.past.items) more.phases → more.pops ≡ sum_by past_pops trail.past.items + last_pops outcome →
+    HasEnded (run_by parts phases.config progress.core.setting) progress more outcome
+ends_by parts phases many progress trail more outcome is began past ends counts pops = record {
+  offered = is.offered;
+  to = standing_at (run_by parts phases.config progress.core.setting) phases progress trail is.offered is.found;
+  under_way = rw began is.under_way;
+  came = record { own = is.came.own; went = rw (past, began) is.came.went };
+  ends = ends;
+  phases = rw past counts;
+  pops = rw past pops;
+}
+
+-- no phase is next
+pub over_next : (parts : Parts) (phases : Iterating) (next bound : Option ℕ) → EndsFrom parts phases.config bound None (begun next bound) ended.Over → next ≡ None
+over_next parts phases None bound is = refl
+over_next parts phases (Some place) None is = absurd is.concludes
+over_next parts phases (Some place) (Some zero) is = cc
+over_next parts phases (Some place) (Some (suc n)) is = absurd is.concludes
+
+-- one phase more was counted
+pub counted_pops : (parts : Parts) (phases : Iterating) (many : Bool) (progress : Progress) (trail more : Trail) (log : Content) → IsSearching parts phases many progress trail → HasCounted trail more log →
+    more.pops ≡ sum_by past_pops trail.past.items + length log.pops
+counted_pops parts phases many progress trail more log is counted = counted.pops ∙ ap (λ n. n + length log.pops) is.pops_are
+
+pub counted_phases : (parts : Parts) (phases : Iterating) (many : Bool) (progress : Progress) (trail more : Trail) (log : Content) → IsSearching parts phases many progress trail → HasCounted trail more log →
+    more.phases ≡ length trail.past.items + 1
+counted_phases parts phases many progress trail more log is counted = counted.phases ∙ ap (λ n. n + 1) is.phases_are
+
+-- the ends of a phase, by the bound that the core says
+pub ends_at : (parts : Parts) (phases : Iterating) (bound present : Option ℕ) (end : PhaseEnd) → bound ≡ present → EndsFrom parts phases.config bound None (begun phases.next bound) end →
+    EndsFrom parts phases.config present None (begun phases.next present) end
+ends_at parts phases bound present end same is = subst (λ b. EndsFrom parts phases.config b None (begun phases.next b) end) same is
+
+pub best_phases : (bound past phases more : ℕ) → phases ≡ past → (0 < bound → more ≡ phases + 1) → (bound ≡ 0 → more ≡ phases) → more ≡ past + (if nat_lt 0 bound then 1 else 0)
+best_phases zero past phases more is some none = none refl ∙ is ∙ alone past
+  where
+    alone : (n : ℕ) → n ≡ n + 0
+    alone n = omega arith
+best_phases (suc n) past phases more is some none = some (omega arith) ∙ ap (λ m. m + 1) is
+
+-- as many plans are kept as a run keeps
+pub full_count : (parts : Parts) (phases : Iterating) (many : Bool) (progress : Progress) (trail : Trail) → (is : IsSearching parts phases many progress trail) →
+    is_over_after progress.core.setting (events_of (turns_on trail.began is.offered)) ≡ true → length progress.kept.items ≡ 9999
+full_count parts phases many progress trail is over =
+    sym (length-map progress.kept.items (λ (plan : Kept). plan.cost)) ∙ ap length (sym is.under_way.costs) ∙ over_full progress.core.setting trail.began is.offered is.single_run over
+
+pub over_ended : (parts : Parts) (phases : Iterating) (many : Bool) (progress : Progress) (trail : Trail) → (is : IsSearching parts phases many progress trail) →
+    is_over_after progress.core.setting (events_of (turns_on trail.began is.offered)) ≡ true → HasEnded (run_by parts phases.config progress.core.setting) progress trail Over
+over_ended parts phases many progress trail is over =
+    let count = full_count parts phases many progress trail is over in
+    ends_by parts phases many progress trail trail Over is refl refl (is.full count, inr (count ∙ ap most_plans (sym is.single_run))) is.phases_are (is.pops_are ∙ alone (sum_by past_pops trail.past.items))
+  where
+    alone : (n : ℕ) → n ≡ n + 0
+    alone n = omega arith

@@ -1,0 +1,44 @@
+use Rattle.std.proofs.Common.{◌≡◌, ◌∙◌, ◌+◌, sym, ap, rules, refl, length, length-append, true, false, [], ◌∷◌}
+use Rattle.run_report.specs.Tells.{events_of}
+use Rattle.run_report.specs.declared.report.Past.TheVariants as item
+use Rattle.candidates.specs.Collecting.{KeepsBelow}
+use Rattle.driver_run.specs.Searching.{turns_on}
+use Rattle.driver_run.proofs.Asking.{asked, asks_any}
+use Rattle.driver_run.proofs.Closing.{over_ended, ends_by}
+use Rattle.driver_run.proofs.Finding.{goes_on}
+use Rattle.driver_run.proofs.phases.take_phase.Goals as goal
+
+pub returns-then-is_over-clause-ended : goal.returns-then-is_over-clause-ended
+returns-then-is_over-clause-ended g c =
+    let is = c.requires.searching in
+    over_ended c.args.task.now c.args.phases.now c.args.many c.args.progress.now c.args.trail.now is (sym (c.is_over.ensures.over (events_of (turns_on c.args.trail.now.began is.offered)) is.under_way.stands) ∙ c.if-is_over.true)
+
+pub returns-in-Ok-clause-asks : goal.returns-in-Ok-clause-asks
+returns-in-Ok-clause-asks g c =
+    let answers = g.C.Clock.answers in
+    asked c.args.task.now c.args.phases.now.config c.args.phases.now.next c.bound-bound.result c.next_phase.result (answers c.args.clock.now) (answers c.next_phase.new.clock) (λ e. let k = sym c.in-Plan.is ∙ e in cc) c.next_phase.ensures.ends c.next_phase.ensures.clock
+
+pub returns-in-Ok-clause-goes_on : goal.returns-in-Ok-clause-goes_on
+returns-in-Ok-clause-goes_on g c so =
+    let is = c.requires.searching in
+    let events = events_of (turns_on c.args.trail.now.began is.offered) in
+    let over = sym (c.is_over.ensures.over events is.under_way.stands) ∙ c.if-is_over.false in
+    let keeps : KeepsBelow c.args.progress.now.core.setting events c.bound-bound.result = record {
+      over = over;
+      going = c.is_over.ensures.going events is.under_way.stands c.if-is_over.false;
+      room = c.is_over.ensures.room events is.under_way.stands c.if-is_over.false;
+      present = c.bound-bound.ensures.bound events is.under_way.stands;
+      keeps = c.bound-bound.ensures.keeps events is.under_way.stands over;
+    } in (
+      goes_on c.args.task.now c.args.phases.now c.next_phase.new.self c.args.many c.args.progress.now c.take_plan.new.progress c.args.trail.now c.take_plan.new.trail c.in-Plan.ops c.in-Plan.cost c.in-Plan.log c.bound-bound.result is keeps (record {
+        config = c.next_phase.ensures.config;
+        task = c.next_phase.ensures.task;
+        next_is = rw c.in-Plan.is at c.next_phase.ensures.next;
+        ends = rw c.in-Plan.is at c.next_phase.ensures.ends;
+        setting = c.take_plan.ensures.setting;
+        no_ends = c.take_plan.ensures.ends;
+        kept = c.in-Ok.ensures.kept;
+        passed = c.in-Ok.ensures.passed;
+      }),
+      ap length c.in-Ok.ensures.passed.past ∙ length-append c.args.trail.now.past.items (item.Plan (length c.args.progress.now.kept.items) c.in-Plan.log ∷ []),
+    )
