@@ -5,13 +5,15 @@ use Rattle.sas_task.specs.declared.plans.Kept.{Kept}
 use Rattle.driver_core.specs.Running.{is_over_after}
 use Rattle.driver_core.specs.Settings.{most_plans}
 use Rattle.std.proofs.lemmas.List.{length-map}
+use Rattle.std.proofs.lemmas.Bool.Decides.{nat_tests}
 use Rattle.driver_run.proofs.Turning.{over_full}
+use Rattle.driver_run.proofs.Stepping.{at_phase}
 use Rattle.phase_ends.specs.Ends.{begun}
 use Rattle.search_log.specs.Logs.{Content}
 use Rattle.search_log.specs.Members.{Member}
 use Rattle.iterated.specs.declared.ends.PhaseEnd.{PhaseEnd}
 use Rattle.iterated.specs.declared.ends.PhaseEnd.TheVariants as ended
-use Rattle.iterated.specs.Ends.{EndsFrom}
+use Rattle.iterated.specs.Ends.{EndsFrom, no_log}
 use Rattle.iterated.specs.Iterating.{Iterating}
 use Rattle.run_report.specs.declared.report.Outcome.{Outcome}
 use Rattle.run_report.specs.declared.report.Outcome.TheVariants.{Best, Unsolvable, Unsolved, Over, Limit, NoMemory}
@@ -31,7 +33,7 @@ ends_by parts phases many progress trail more outcome is began past ends counts 
   offered = is.offered;
   to = standing_at (run_by parts phases.config progress.core.setting) phases progress trail is.offered is.found;
   under_way = rw began is.under_way;
-  came = record { own = is.came.own; went = rw (past, began) is.came.went };
+  came = record { own = is.came.own; went = rw past is.came.went };
   ends = ends;
   phases = rw past counts;
   pops = rw past pops;
@@ -63,7 +65,9 @@ best_phases zero past phases more is some none = none refl ∙ is ∙ alone past
   where
     alone : (n : ℕ) → n ≡ n + 0
     alone n = omega arith
-best_phases (suc n) past phases more is some none = some (omega arith) ∙ ap (λ m. m + 1) is
+best_phases (suc n) past phases more is some none =
+    let below : nat_lt 0 (suc n) ≡ true = grind (arith, nat_tests) in
+    rw below (some (omega arith) ∙ ap (λ m. m + 1) is)
 
 -- as many plans are kept as a run keeps
 pub full_count : (parts : Parts) (phases : Iterating) (many : Bool) (progress : Progress) (trail : Trail) → (is : IsSearching parts phases many progress trail) →
@@ -79,3 +83,41 @@ over_ended parts phases many progress trail is over =
   where
     alone : (n : ℕ) → n ≡ n + 0
     alone n = omega arith
+
+-- no plan exists
+pub unsolvable_ended : (parts : Parts) (phases : Iterating) (many : Bool) (progress : Progress) (trail more : Trail) (space : List Member) (log : Content) (bound : Option ℕ) → (is : IsSearching parts phases many progress trail) →
+    bound ≡ bound_of progress.core.setting (events_of (turns_on trail.began is.offered)) → EndsFrom parts phases.config bound None (begun phases.next bound) (ended.Unsolvable space log) → HasNoPlan parts → HasCounted trail more log →
+    HasEnded (run_by parts phases.config progress.core.setting) progress more (Unsolvable space log)
+unsolvable_ended parts phases many progress trail more space log bound is present ends none counted =
+    ends_by parts phases many progress trail more (Unsolvable space log) is counted.began counted.past
+    (sym present ∙ no_bound bound ends, ends_at parts phases bound _ (ended.Unsolvable space log) present ends, none)
+    (counted_phases parts phases many progress trail more log is counted) (counted_pops parts phases many progress trail more log is counted)
+  where
+    no_bound : (b : Option ℕ) → EndsFrom parts phases.config b None (begun phases.next b) (ended.Unsolvable space log) → b ≡ None
+    no_bound b is_end = let at = at_phase parts phases.config phases.next b (ended.Unsolvable space log) is_end (λ e. cc) (λ e. cc) in at.ends.searched.holds.2
+
+-- no plan is cheaper than the bound
+pub best_ended : (parts : Parts) (phases : Iterating) (many : Bool) (progress : Progress) (trail more : Trail) (space : List Member) (least : ℕ) (log : Content) (bound : Option ℕ) → (is : IsSearching parts phases many progress trail) →
+    bound ≡ bound_of progress.core.setting (events_of (turns_on trail.began is.offered)) → bound ≡ Some least → EndsFrom parts phases.config bound None (begun phases.next bound) (ended.Best space log) →
+    ((n : ℕ) → bound ≡ Some n → HasNoCheaperPlan parts n) → (0 < least → HasCounted trail more log) → (least ≡ 0 → more ≡ trail) →
+    HasEnded (run_by parts phases.config progress.core.setting) progress more (Best space least log)
+best_ended parts phases many progress trail more space zero log bound is present some ends cheaper counted none =
+    let same = none refl in
+    let empty : length log.pops ≡ 0 = no_pops bound some ends in
+    rw same (ends_by parts phases many progress trail trail (Best space zero log) is refl refl
+    (sym present ∙ some, ends_at parts phases bound _ (ended.Best space log) present ends, cheaper zero some)
+    (is.phases_are ∙ alone (length trail.past.items)) (is.pops_are ∙ alone (sum_by past_pops trail.past.items) ∙ ap (λ n. sum_by past_pops trail.past.items + n) (sym empty)))
+  where
+    alone : (n : ℕ) → n ≡ n + 0
+    alone n = omega arith
+    at_none : (next : Option ℕ) → EndsFrom parts phases.config (Some zero) None (begun next (Some zero)) (ended.Best space log) → length log.pops ≡ 0
+    at_none None is_end = cc
+    at_none (Some place) is_end = let e : ended.Best space log ≡ ended.Best [] no_log = is_end in let l : log ≡ no_log = cc in ap (λ (c : Content). length c.pops) l
+    no_pops : (b : Option ℕ) → b ≡ Some zero → EndsFrom parts phases.config b None (begun phases.next b) (ended.Best space log) → length log.pops ≡ 0
+    no_pops b is_zero is_end = at_none phases.next (rw is_zero at is_end)
+best_ended parts phases many progress trail more space (suc n) log bound is present some ends cheaper counted none =
+    let has = counted (omega arith) in
+    ends_by parts phases many progress trail more (Best space (suc n) log) is has.began has.past
+    (sym present ∙ some, ends_at parts phases bound _ (ended.Best space log) present ends, cheaper (suc n) some)
+    (best_phases (suc n) (length trail.past.items) trail.phases more.phases is.phases_are (λ below. has.phases) (λ zero_is. let k : suc n ≡ 0 = zero_is in absurd (omega (arith, k))))
+    (counted_pops parts phases many progress trail more log is has)

@@ -25,7 +25,7 @@ use Rattle.driver_run.specs.declared.progress.Trail.{Trail}
 use Rattle.driver_run.specs.Searching.{run_by, turns_on, begun_with, standing_at, place_of, CameTo, IsSearching, HasKept, HasPassed}
 use Rattle.driver_run.proofs.Turning.{own_offer, the_turn, is_on, plans_more}
 use Rattle.driver_run.proofs.Going.{own_plan, kept_more}
-use Rattle.driver_run.proofs.Phasing.{went_plan}
+use Rattle.driver_run.proofs.Phasing.{went_plan, went_so}
 use Rattle.driver_run.proofs.Stepping.{AtPhase, at_phase, FoundPlan, found_plan, bound_after, same_standing, pops_more}
 
 -- the turn is on, as keeping a plan wants it
@@ -92,18 +92,19 @@ goes_on parts phases next_phases many progress next trail more ops cost log boun
     record {
       offered = offered;
       found = true;
-      under_way = rw (takes.config, takes.setting, takes.passed.began, takes.kept.kept, takes.kept.candidates) under_way;
-      came = rw (takes.config, takes.setting) (record {
-        own = All-push IsOwn is.offered (own_offer ops cost) is.came.own (refl, tt);
-        went = rw (takes.passed.began, takes.passed.past, plans_more trail.began is.offered ops cost)
-            (subst (Went (search_of run 1) (standing_after setting []) (trail.past.items ++ item.Plan (length progress.kept.items) log ∷ []) (plans_in (begun_with trail.began is.offered) ++ own_plan ops cost ∷ []))
-            (same_standing _ _ _ _ _ _ true
-            (ap (λ b. next_from config (begun phases.next b) (Plan ops cost log)) (sym keeps.present) ∙ sym takes.next_is)
-            (sym (ap length takes.kept.kept ∙ length-append progress.kept.items (own_plan ops cost ∷ [])))
-            (sym (bound_after setting (events_of (turns_on trail.began offered)) progress.kept.items (own_plan ops cost) under_way.costs)))
-            (went_plan (search_of run 1) (standing_after setting []) trail.past.items (plans_in (begun_with trail.began is.offered)) (standing_at run phases progress trail is.offered is.found) log (own_plan ops cost) is.came.went
-            (subst (λ b. EndsFrom parts config b None (begun phases.next b) (Plan ops cost log)) keeps.present takes.ends)));
-      });
+      under_way = subst (λ s. IsUnderWay (run_by parts next_phases.config s) next.core (turns_on more.began offered) next.kept.items next.candidates.items []) (sym takes.setting)
+          (rw (takes.config, takes.passed.began, takes.kept.kept, takes.kept.candidates) under_way);
+      came = subst (λ s. CameTo (run_by parts next_phases.config s) more offered (standing_at (run_by parts next_phases.config s) next_phases next more offered true)) (sym takes.setting)
+          (subst (λ c. CameTo (run_by parts c setting) more offered (standing_at (run_by parts c setting) next_phases next more offered true)) (sym takes.config) (record {
+          own = All-push IsOwn is.offered (own_offer ops cost) is.came.own (refl, tt);
+          went = went_so (search_of run 1) (standing_after setting []) _ _ _ _ _ _ takes.passed.past (plans_more trail.began is.offered ops cost)
+              (same_standing _ _ _ _ _ _ true
+              (takes.next_is ∙ ap (λ b. next_from config (begun phases.next b) (Plan ops cost log)) keeps.present)
+              (ap length takes.kept.kept ∙ length-append progress.kept.items (own_plan ops cost ∷ []))
+              (ap (λ b. bound_of setting (events_of (turns_on b offered))) takes.passed.began ∙ bound_after setting (events_of (turns_on trail.began offered)) progress.kept.items (own_plan ops cost) under_way.costs))
+              (went_plan (search_of run 1) (standing_after setting []) trail.past.items (plans_in (begun_with trail.began is.offered)) (standing_at run phases progress trail is.offered is.found) log (own_plan ops cost) is.came.went
+              (subst (λ b. EndsFrom parts config b None (begun phases.next b) (Plan ops cost log)) keeps.present takes.ends));
+        }));
       ends = rw takes.no_ends is.ends;
       single_run = rw takes.setting is.single_run;
       config = rw takes.config is.config;

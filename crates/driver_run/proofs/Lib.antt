@@ -4,6 +4,7 @@ pub mod Finding
 pub mod Going
 pub mod Leaving
 pub mod OwnNames
+pub mod Passing
 pub mod Phasing
 pub mod Placing
 pub mod Stepping

@@ -37,3 +37,6 @@ went_space search at (item.Plan index other ∷ done) (first ∷ plans) mid log 
     (went.0, went.1, went_space search (after_plan search at first.cost (phase.Plan first.ops first.cost other)) done plans mid log space bound went.2 is ends)
 went_space search at (item.Unsolved other_space other_bound other ∷ done) plans mid log space bound went is ends =
     (went.0, went.1, went_space search (after_space search at (phase.Unsolved other_space other false)) done plans mid log space bound went.2 is ends)
+
+pub went_so : (search : Search) (at : Standing) (past other : List Past) (plans same : List Kept) (to there : Standing) → other ≡ past → same ≡ plans → there ≡ to → Went search at past plans to → Went search at other same there
+went_so search at past other plans same to there p q r went = rw (p, q, r) went

@@ -116,9 +116,12 @@ pub same_standing : (next other : Option ℕ) (plans count : ℕ) (bound present
     ◌≡◌ {A = Standing} (record { next = next; plans = plans; bound = bound; found = found }) (record { next = other; plans = count; bound = present; found = found })
 same_standing next other plans count bound present found n p b = rw (n, p, b) refl
 
+one_item : (item : Past) → sum_by past_pops (item ∷ []) ≡ past_pops item
+one_item item = alone (past_pops item)
+  where
+    alone : (n : ℕ) → 0 + n ≡ n
+    alone n = omega arith
+
 -- the pops so far and those of one phase more
 pub pops_more : (past : List Past) (item : Past) → sum_by past_pops (past ++ item ∷ []) ≡ sum_by past_pops past + past_pops item
-pops_more past item = sum_by-append past_pops past (item ∷ []) ∙ alone (past_pops item)
-  where
-    alone : (n : ℕ) → sum_by past_pops past + (n + 0) ≡ sum_by past_pops past + n
-    alone n = omega arith
+pops_more past item = sum_by-append past_pops past (item ∷ []) ∙ ap (λ n. sum_by past_pops past + n) (one_item item)

@@ -116,10 +116,8 @@ over_full setting began offered many over =
     let n = length (kept_costs setting (events_of (turns_on began offered))) in
     let last : has_last_round setting (events_of (turns_on began offered)) ≡ false = ap (list_any (is_last_round setting (events_of (turns_on began offered)))) (no_round offered) in
     let full : (nat_le (most_plans setting.single) n || false) ≡ true = rw (no_time offered, no_last offered, last) at over in
-    let full_so : (nat_le 9999 n || false) ≡ true = rw many at full in
-    let most : n ≤ most_plans setting.single = kept_costs-few setting (events_of (turns_on began offered)) in
-    let most_so : n ≤ 9999 = rw many at most in
-    both n full_so most_so
+    both setting.single n many full (kept_costs-few setting (events_of (turns_on began offered)))
   where
-    both : (n : ℕ) → (nat_le 9999 n || false) ≡ true → n ≤ 9999 → n ≡ 9999
-    both n full most = let least : nat_le 9999 n ≡ true = sym (or-false (nat_le 9999 n)) ∙ full in grind (arith, nat_tests, least, most)
+    both : (single : Bool) (n : ℕ) → single ≡ false → (nat_le (most_plans single) n || false) ≡ true → n ≤ most_plans single → n ≡ 9999
+    both true n many full most = let k : true ≡ false = many in cc
+    both false n many full most = let least : nat_le 9999 n ≡ true = sym (or-false (nat_le 9999 n)) ∙ full in grind (arith, nat_tests, least, most)

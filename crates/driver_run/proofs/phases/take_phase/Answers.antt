@@ -3,8 +3,9 @@ use Rattle.run_report.specs.Tells.{events_of}
 use Rattle.run_report.specs.declared.report.Past.TheVariants as item
 use Rattle.candidates.specs.Collecting.{KeepsBelow}
 use Rattle.driver_run.specs.Searching.{turns_on}
+use Rattle.driver_run.proofs.Passing.{passes_by}
 use Rattle.driver_run.proofs.Asking.{asked, asks_any}
-use Rattle.driver_run.proofs.Closing.{over_ended, ends_by}
+use Rattle.driver_run.proofs.Closing.{over_ended, unsolvable_ended, best_ended}
 use Rattle.driver_run.proofs.Finding.{goes_on}
 use Rattle.driver_run.proofs.phases.take_phase.Goals as goal
 
@@ -42,3 +43,54 @@ returns-in-Ok-clause-goes_on g c so =
       }),
       ap length c.in-Ok.ensures.passed.past ∙ length-append c.args.trail.now.past.items (item.Plan (length c.args.progress.now.kept.items) c.in-Plan.log ∷ []),
     )
+
+pub returns-in-Err-clause-asks : goal.returns-in-Err-clause-asks
+returns-in-Err-clause-asks g c =
+    let answers = g.C.Clock.answers in
+    asks_any _ (answers c.args.clock.now) (answers c.next_phase.new.clock)
+    (asked c.args.task.now c.args.phases.now.config c.args.phases.now.next c.bound-bound.result c.next_phase.result (answers c.args.clock.now) (answers c.next_phase.new.clock) (λ e. let k = sym c.in-Plan.is ∙ e in cc) c.next_phase.ensures.ends c.next_phase.ensures.clock)
+
+pub returns-in-Unsolvable-clause-asks : goal.returns-in-Unsolvable-clause-asks
+returns-in-Unsolvable-clause-asks g c =
+    let answers = g.C.Clock.answers in
+    rw c.take_unsolvable.ensures.outcome
+    (asked c.args.task.now c.args.phases.now.config c.args.phases.now.next c.bound-bound.result c.next_phase.result (answers c.args.clock.now) (answers c.next_phase.new.clock) (λ e. let k = sym c.in-Unsolvable.is ∙ e in cc) c.next_phase.ensures.ends c.next_phase.ensures.clock)
+
+pub returns-in-Unsolvable-clause-ended : goal.returns-in-Unsolvable-clause-ended
+returns-in-Unsolvable-clause-ended g c =
+    let is = c.requires.searching in
+    rw c.take_unsolvable.ensures.outcome
+    (unsolvable_ended c.args.task.now c.args.phases.now c.args.many c.args.progress.now c.args.trail.now c.take_unsolvable.new.trail c.in-Unsolvable.space c.in-Unsolvable.log c.bound-bound.result is
+    (c.bound-bound.ensures.bound (events_of (turns_on c.args.trail.now.began is.offered)) is.under_way.stands)
+    (rw c.in-Unsolvable.is at c.next_phase.ensures.ends) (rw c.in-Unsolvable.is at c.next_phase.ensures.shows) c.take_unsolvable.ensures.counted)
+
+pub returns-in-Limit-clause-asks : goal.returns-in-Limit-clause-asks
+returns-in-Limit-clause-asks g c =
+    let answers = g.C.Clock.answers in
+    rw c.take_limit.ensures.outcome
+    (asked c.args.task.now c.args.phases.now.config c.args.phases.now.next c.bound-bound.result c.next_phase.result (answers c.args.clock.now) (answers c.next_phase.new.clock) (λ e. let k = sym c.in-Limit.is ∙ e in cc) c.next_phase.ensures.ends c.next_phase.ensures.clock)
+
+pub returns-in-Over-clause-asks : goal.returns-in-Over-clause-asks
+returns-in-Over-clause-asks g c =
+    let answers = g.C.Clock.answers in
+    asked c.args.task.now c.args.phases.now.config c.args.phases.now.next c.bound-bound.result c.next_phase.result (answers c.args.clock.now) (answers c.next_phase.new.clock) (λ e. let k = sym c.in-Over.is ∙ e in cc) c.next_phase.ensures.ends c.next_phase.ensures.clock
+
+pub returns-in-Some-clause-asks : goal.returns-in-Some-clause-asks
+returns-in-Some-clause-asks g c =
+    let answers = g.C.Clock.answers in
+    rw c.take_best.ensures.outcome
+    (asked c.args.task.now c.args.phases.now.config c.args.phases.now.next c.bound-bound.result c.next_phase.result (answers c.args.clock.now) (answers c.next_phase.new.clock) (λ e. let k = sym c.in-Best.is ∙ e in cc) c.next_phase.ensures.ends c.next_phase.ensures.clock)
+
+pub returns-in-Some-bound-clause-asks : goal.returns-in-Some-bound-clause-asks
+returns-in-Some-bound-clause-asks g c =
+    let answers = g.C.Clock.answers in
+    asks_any _ (answers c.args.clock.now) (answers c.next_phase.new.clock)
+    (asked c.args.task.now c.args.phases.now.config c.args.phases.now.next c.bound-bound.result c.next_phase.result (answers c.args.clock.now) (answers c.next_phase.new.clock) (λ e. let k = sym c.in-Unsolved.is ∙ e in cc) c.next_phase.ensures.ends c.next_phase.ensures.clock)
+
+pub returns-in-Some-clause-ended : goal.returns-in-Some-clause-ended
+returns-in-Some-clause-ended g c =
+    let is = c.requires.searching in
+    rw c.take_best.ensures.outcome
+    (best_ended c.args.task.now c.args.phases.now c.args.many c.args.progress.now c.args.trail.now c.take_best.new.trail c.in-Best.space c.in-Some.bound c.in-Best.log c.bound-bound.result is
+    (c.bound-bound.ensures.bound (events_of (turns_on c.args.trail.now.began is.offered)) is.under_way.stands) c.in-Some.is
+    (rw c.in-Best.is at c.next_phase.ensures.ends) (rw c.in-Best.is at c.next_phase.ensures.shows) c.take_best.ensures.counted c.take_best.ensures.none)
