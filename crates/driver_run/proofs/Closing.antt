@@ -1,7 +1,8 @@
 -- The search of the turn ends.
-use Rattle.std.proofs.Common.{◌≡◌, ◌≢◌, ◌∙◌, sym, ap, subst, refl, ℕ, ◌+◌, ◌<◌, zero, suc, List, [], length, Bool, true, false, sum_by, nat_lt, if◌then◌else◌, Option, Some, None, arith, inl, inr}
+use Rattle.std.proofs.Common.{◌≡◌, ◌≢◌, ◌∙◌, sym, ap, subst, refl, ℕ, ◌+◌, ◌<◌, zero, suc, List, [], length, Bool, true, false, sum_by, nat_lt, if◌then◌else◌, Option, Some, None, IfSome, Result, Ok, Err, IfOk, arith, inl, inr}
 use Rattle.sas_task.specs.declared.contents.Parts.{Parts}
 use Rattle.sas_task.specs.declared.plans.Kept.{Kept}
+use Rattle.driver_core.specs.Keeping.{bound_of, kept_costs}
 use Rattle.driver_core.specs.Running.{is_over_after}
 use Rattle.driver_core.specs.Settings.{most_plans}
 use Rattle.std.proofs.lemmas.List.{length-map}
@@ -20,6 +21,7 @@ use Rattle.run_report.specs.declared.report.Outcome.TheVariants.{Best, Unsolvabl
 use Rattle.run_report.specs.Tells.{events_of}
 use Rattle.run_report.specs.Searches.{EndsBy, CountsPhases, search_of, past_pops, last_pops, HasNoPlan, HasNoCheaperPlan}
 use Rattle.driver_run.specs.declared.progress.Progress.{Progress}
+use Rattle.driver_run.specs.declared.progress.Stop.{Stop}
 use Rattle.driver_run.specs.declared.progress.Trail.{Trail}
 use Rattle.driver_run.specs.Searching.{run_by, turns_on, standing_at, CameTo, IsSearching, HasEnded, HasCounted}
 
@@ -121,3 +123,37 @@ best_ended parts phases many progress trail more space (suc n) log bound is pres
     (sym present ∙ some, ends_at parts phases bound _ (ended.Best space log) present ends, cheaper (suc n) some)
     (best_phases (suc n) (length trail.past.items) trail.phases more.phases is.phases_are (λ below. has.phases) (λ zero_is. let k : suc n ≡ 0 = zero_is in absurd (omega (arith, k))))
     (counted_pops parts phases many progress trail more log is has)
+
+-- that is left open by the last phase
+pub unsolved_ended : (parts : Parts) (phases : Iterating) (many : Bool) (progress : Progress) (trail more : Trail) (space : List Member) (least : ℕ) (log : Content) (bound : Option ℕ) → (is : IsSearching parts phases many progress trail) →
+    bound ≡ bound_of progress.core.setting (events_of (turns_on trail.began is.offered)) → bound ≡ Some least → EndsFrom parts phases.config bound None (begun phases.next bound) (ended.Unsolved space log true) → HasCounted trail more log →
+    HasEnded (run_by parts phases.config progress.core.setting) progress more (Unsolved space least log)
+unsolved_ended parts phases many progress trail more space least log bound is present some ends counted =
+    ends_by parts phases many progress trail more (Unsolved space least log) is counted.began counted.past
+    (sym present ∙ some, ends_at parts phases bound _ (ended.Unsolved space log true) present ends)
+    (counted_phases parts phases many progress trail more log is counted) (counted_pops parts phases many progress trail more log is counted)
+
+-- there is room for a plan more
+pub room_left : (parts : Parts) (phases : Iterating) (many : Bool) (progress : Progress) (trail : Trail) → (is : IsSearching parts phases many progress trail) →
+    length (kept_costs progress.core.setting (events_of (turns_on trail.began is.offered))) < most_plans progress.core.setting.single → length progress.kept.items ≡ 9999 → ⊥
+room_left parts phases many progress trail is room full =
+    by_single progress.core.setting.single (length (kept_costs progress.core.setting (events_of (turns_on trail.began is.offered)))) is.single_run room
+    (ap length is.under_way.costs ∙ length-map progress.kept.items (λ (plan : Kept). plan.cost) ∙ full)
+  where
+    by_single : (single : Bool) (n : ℕ) → single ≡ false → n < most_plans single → n ≡ 9999 → ⊥
+    by_single true n many_ less most = let k : true ≡ false = many_ in cc
+    by_single false n many_ less most = omega (arith, less, most)
+
+-- what a phase without a plan came to, by whether it was the last
+
+pub space_goes : {C P : Type 0} (last : Bool) (result : Result (Option Outcome) Stop) (outcome : Outcome) → (last ≡ true → (result ≡ Ok (Some outcome)) × C) → (last ≡ false → IfOk result (λ o. (o ≡ None) × P)) →
+    result ≡ Ok None → (last ≡ false) × P
+space_goes true result outcome final passed so = let k = sym (final refl).0 ∙ so in cc
+space_goes false result outcome final passed so = let p = rw so at (passed refl) in (refl, p.1)
+
+pub space_ends : {C : Type 0} (P : Type 0) (H : Outcome → Type 0) (last : Bool) (result : Result (Option Outcome) Stop) (outcome : Outcome) → (last ≡ true → (result ≡ Ok (Some outcome)) × C) → (last ≡ false → IfOk result (λ o. (o ≡ None) × P)) →
+    (last ≡ true → C → H outcome) → IfOk result (λ o. IfSome o H)
+space_ends P H true result outcome final passed so = let f = final refl in rw f.0 (so refl f.1)
+space_ends P H false (Ok None) outcome final passed so = tt
+space_ends P H false (Ok (Some o)) outcome final passed so = let p = passed refl in let k = p.0 in cc
+space_ends P H false (Err stop) outcome final passed so = tt

@@ -3,6 +3,7 @@ pub mod Closing
 pub mod Finding
 pub mod Going
 pub mod Leaving
+pub mod Limiting
 pub mod OwnNames
 pub mod Passing
 pub mod Phasing

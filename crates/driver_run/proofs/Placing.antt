@@ -1,5 +1,5 @@
 -- A plan that was placed changes nothing outside the family and base.part.
-use Rattle.std.proofs.Common.{◌≡◌, subst, ℕ, ◌≤◌, List, Bool, true, false, Result, Ok, Err, OnOk, arith}
+use Rattle.std.proofs.Common.{◌≡◌, subst, refl, ℕ, ◌≤◌, List, Bool, true, false, Result, Ok, Err, OnOk, arith}
 use Rattle.lama_host.specs.Folder.{Told, Changes, last_of}
 use Rattle.lama_host.specs.StepLaws.{leaves_by}
 use Rattle.lama_host.specs.Steps.{Leaves}
@@ -22,3 +22,8 @@ kept_outside (Ok done) before now base many number text is most = leaves_by befo
     let placed = placing_places {T = Unit {0}} ReadError done (part_name base) (plan_file base many number) text files steps places in
     subst (λ b. SameOutside b files (last_of files steps)) is (λ name other part. placed.others name part (other (plan_number many number) (numbered_within many number most))))
 kept_outside (Err e) before now base many number text is most = λ changes. tt
+
+-- where nothing was touched
+pub same_outside : {T E : Type 0} (result : Result T E) (told : Told) → OnOk result (Leaves told told (SameOutside base_name))
+same_outside (Ok done) told = λ files idle held. (files, held, λ name other part. refl)
+same_outside (Err e) told = tt

@@ -1,0 +1,129 @@
+-- The search of the turn ends at a limit of a phase, where there was room for more.
+use Rattle.std.proofs.Common.{◌≡◌, ◌∙◌, refl, sym, ap, subst, ℕ, zero, suc, ◌+◌, ◌<◌, ◌≤◌, Bool, true, false, List, [], ◌∷◌, ◌++◌, length, nat_lt, slice_get, Option, Some, None, IfSome, arith}
+use Rattle.std.specs.Prelude.{not, ◌&&◌, ◌||◌}
+use Rattle.std.proofs.lemmas.List.Folds.{list_any-append}
+use Rattle.lama_num.specs.Lists.{both}
+use Rattle.sas_task.specs.declared.contents.Parts.{Parts}
+use Rattle.sas_task.specs.WellFormed.{IsWellFormed}
+use Rattle.conf_text.specs.declared.config.GuideKind.{GuideKind}
+use Rattle.conf_text.specs.declared.config.GuideKind.TheVariants.{Add, Ff, Lm}
+use Rattle.conf_text.specs.declared.config.Phase.{Phase}
+use Rattle.conf_text.specs.Accepted.{each_once, IsPhase as IsConfigPhase}
+use Rattle.conf_text.specs.Grammar.{same_guide, has_guide, every_guide}
+use Rattle.driver_core.specs.Keeping.{bound_of}
+use Rattle.phase_ends.specs.declared.ends.Begun.TheVariants as begins
+use Rattle.phase_ends.specs.Ends.{begun}
+use Rattle.search_log.specs.declared.setting.LimitHit.{LimitHit}
+use Rattle.search_log.specs.declared.setting.LimitHit.TheVariants.{Time, Pops, States}
+use Rattle.search_log.specs.Logs.{Content}
+use Rattle.search_log.specs.Phases.{IsPhase, IsSetting}
+use Rattle.search_log.specs.RoomLaws.{pops_below_room, full_below_room}
+use Rattle.iterated.specs.declared.ends.PhaseEnd.TheVariants as ended
+use Rattle.iterated.specs.Ends.{EndsFrom, PhaseEnds}
+use Rattle.iterated.specs.Iterating.{Iterating}
+use Rattle.iterated.specs.Searches.{search_phase}
+use Rattle.run_report.specs.declared.report.Outcome.TheVariants.{Limit}
+use Rattle.run_report.specs.Tells.{events_of}
+use Rattle.run_report.specs.Searches.{HadRoom}
+use Rattle.driver_run.specs.declared.progress.Progress.{Progress}
+use Rattle.driver_run.specs.declared.progress.Trail.{Trail}
+use Rattle.driver_run.specs.Searching.{run_by, turns_on, IsSearching, HasEnded, HasCounted}
+use Rattle.driver_run.proofs.Stepping.{at_phase, phase_within}
+use Rattle.driver_run.proofs.Closing.{ends_by, ends_at, counted_pops, counted_phases}
+
+-- there are at most three guides
+
+is_not : (b : Bool) → not b ≡ true → b ≡ false
+is_not true e = let k : false ≡ true = e in cc
+is_not false e = refl
+
+-- how many kinds of guides aren't among some
+missing : Bool → ℕ
+missing true = 0
+missing false = 1
+
+kinds_left : List GuideKind → ℕ
+kinds_left front = missing (has_guide front Add) + (missing (has_guide front Ff) + missing (has_guide front Lm))
+
+among : (front : List GuideKind) (g h : GuideKind) → has_guide (front ++ g ∷ []) h ≡ (has_guide front h || (same_guide h g || false))
+among front g h = list_any-append (same_guide h) front (g ∷ [])
+
+or_false : (b : Bool) → (b || false) ≡ b
+or_false true = refl
+or_false false = refl
+
+one_less : (front : List GuideKind) (g : GuideKind) → has_guide front g ≡ false → kinds_left front ≡ kinds_left (front ++ g ∷ []) + 1
+unfolding kinds_left missing
+one_less front Add new = rw (among front Add Add, among front Add Ff, among front Add Lm, new, or_false (has_guide front Ff), or_false (has_guide front Lm)) (omega arith)
+one_less front Ff new = rw (among front Ff Add, among front Ff Ff, among front Ff Lm, new, or_false (has_guide front Add), or_false (has_guide front Lm)) (omega arith)
+one_less front Lm new = rw (among front Lm Add, among front Lm Ff, among front Lm Lm, new, or_false (has_guide front Add), or_false (has_guide front Ff)) (omega arith)
+
+few_guides : (allowed front gs : List GuideKind) → each_once allowed front gs ≡ true → length gs ≤ kinds_left front
+few_guides allowed front [] once = omega arith
+few_guides allowed front (g ∷ gs) once =
+    let parts = both (not (has_guide front g) && has_guide allowed g) (each_once allowed (front ++ g ∷ []) gs) once in
+    let two = both (not (has_guide front g)) (has_guide allowed g) parts.0 in
+    omega (arith, one_less front g (is_not (has_guide front g) two.0), few_guides allowed (front ++ g ∷ []) gs parts.1)
+
+three_left : kinds_left [] ≡ 3
+unfolding kinds_left missing
+three_left = refl
+
+at_most_three : (gs : List GuideKind) → each_once every_guide [] gs ≡ true → length gs ≤ 3
+at_most_three gs once = omega (arith, few_guides every_guide [] gs once, three_left)
+
+-- a phase that was begun may be asked what it is
+
+above_none : (next bound : Option ℕ) (place : ℕ) → begun next bound ≡ begins.Phase place → IfSome bound (λ b. 0 < b)
+above_none next None place is = tt
+above_none None (Some b) place is = let k : begins.Over ≡ begins.Phase place = is in cc
+above_none (Some p) (Some zero) place is = let k : begins.Best ≡ begins.Phase place = is in cc
+above_none (Some p) (Some (suc n)) place is = omega arith
+
+weight_within : (weight : Option ℕ) → IfSome weight (λ w. (1 ≤ w) × (w ≤ 1000)) → IfSome weight (λ w. (0 < w) × (w ≤ 1000))
+weight_within None is = tt
+weight_within (Some w) is = (omega (arith, is.0), is.1)
+
+is_phase : (parts : Parts) (phase : Phase) (bound : Option ℕ) → IsWellFormed parts → IsConfigPhase phase → IfSome bound (λ b. 0 < b) → IsPhase (search_phase parts phase bound None)
+is_phase parts phase bound formed is above = record {
+  task = formed;
+  some_guide = is.some;
+  few_guides = at_most_three phase.guides is.guides;
+  setting = record {
+    bound = above;
+    weight = weight_within phase.weight is.weight;
+    boost = is.boost;
+    pops = is.most_pops;
+    some_state = omega (arith, is.most_states.0);
+    few_states = is.most_states.1;
+  };
+}
+
+had_room : (parts : Parts) (phases : Iterating) (place : ℕ) (bound : Option ℕ) (hit : LimitHit) (log : Content) → (ends : PhaseEnds parts phases.config place bound None (ended.Limit hit log)) → IsPhase (search_phase parts ends.phase bound None) →
+    HadRoom (search_phase parts ends.phase bound None) hit
+had_room parts phases place bound (Time start limit moment) log ends is = tt
+had_room parts phases place bound (Pops n) log ends is =
+    let holds = ends.searched.holds in
+    λ closed. rw holds.1.0 (pops_below_room (search_phase parts ends.phase bound None) log.visits log.pops is holds.0.lawful holds.1.1 closed)
+had_room parts phases place bound (States n) log ends is =
+    let holds = ends.searched.holds in
+    rw holds.1.0 (full_below_room (search_phase parts ends.phase bound None) log.visits log.pops is holds.0.lawful holds.1.1).1
+
+pub limit_ended : (parts : Parts) (phases : Iterating) (many : Bool) (progress : Progress) (trail more : Trail) (hit : LimitHit) (log : Content) (bound : Option ℕ) → (is : IsSearching parts phases many progress trail) →
+    bound ≡ bound_of progress.core.setting (events_of (turns_on trail.began is.offered)) → EndsFrom parts phases.config bound None (begun phases.next bound) (ended.Limit hit log) → IsWellFormed parts → HasCounted trail more log →
+    HasEnded (run_by parts phases.config progress.core.setting) progress more (Limit hit log)
+limit_ended parts phases many progress trail more hit log bound is present ends formed counted =
+    let now = bound_of progress.core.setting (events_of (turns_on trail.began is.offered)) in
+    let ends_now = ends_at parts phases bound now (ended.Limit hit log) present ends in
+    let at = at_phase parts phases.config phases.next now (ended.Limit hit log) ends_now (λ e. cc) (λ e. cc) in
+    let phase = phase_within phases.config at.place at.ends.phase is.config at.ends.at in
+    ends_by parts phases many progress trail more (Limit hit log) is counted.began counted.past
+    (record {
+      ends = ends_now;
+      place = at.place;
+      phase = at.ends.phase;
+      next = at.next_is;
+      at_place = at.ends.at;
+      had_room = had_room parts phases at.place now hit log at.ends (is_phase parts at.ends.phase now formed phase (above_none phases.next now at.place at.begins_is));
+    })
+    (counted_phases parts phases many progress trail more log is counted) (counted_pops parts phases many progress trail more log is counted)
