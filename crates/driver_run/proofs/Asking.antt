@@ -1,5 +1,5 @@
 -- What the clock was asked in a phase, and in a turn.
-use Rattle.std.proofs.Common.{◌≡◌, ◌≢◌, ◌∙◌, sym, ap, subst, refl, ℕ, zero, suc, List, [], ◌∷◌, ◌++◌, Bool, true, false, slice_get, Option, Some, None, append-nil}
+use Rattle.std.proofs.Common.{◌≡◌, ◌≢◌, ◌∙◌, sym, ap, subst, refl, ℕ, zero, suc, List, [], ◌∷◌, ◌++◌, Bool, true, false, ◌≤◌, slice_get, Option, Some, None, append-nil, append_assoc}
 use Rattle.sas_task.specs.declared.contents.Parts.{Parts}
 use Rattle.conf_text.specs.declared.config.Config.{Config}
 use Rattle.phase_ends.specs.Ends.{begun}
@@ -13,7 +13,8 @@ use Rattle.iterated.specs.declared.ends.PhaseEnd.{PhaseEnd}
 use Rattle.iterated.specs.declared.ends.PhaseEnd.TheVariants.{Plan, Unsolvable, Best, Unsolved, Limit, Over, NoMemory}
 use Rattle.iterated.specs.Ends.{EndsFrom, PhaseEnds, AsksFrom, search_end}
 use Rattle.iterated.specs.Searches.{search_phase}
-use Rattle.driver_run.specs.Searching.{AsksNoMore}
+use Rattle.lama_host.specs.Streams.{Answers}
+use Rattle.driver_run.specs.Searching.{AsksNoMore, AsksForTurn}
 
 same_asks : (before after : Option (List ℕ)) → after ≡ before → AsksNoMore true before after
 same_asks before after same = record { answers = λ all told. (all, [], sym same ∙ told, sym (append-nil all), λ memory. refl) }
@@ -88,4 +89,16 @@ asks_then memory before mid after one two = record {
       let b = two.answers all told in
       let a = one.answers b.0 b.2 in
       (a.0, b.1, a.2, b.3 ∙ ap (λ front. front ++ b.1) (a.3 ∙ ap (λ more. a.0 ++ more) (a.4 refl) ∙ append-nil a.0), b.4);
+}
+
+-- the clock was asked as the turn began, and then in its search
+pub asks_turn : (memory : Bool) (began before now : ℕ) (told_before told_mid told_now : Option (List ℕ)) → before ≤ began → began ≤ now → Answers told_before told_mid began → AsksNoMore memory told_mid told_now →
+    AsksForTurn memory began before now told_before told_now
+asks_turn memory began before now told_before told_mid told_now later last first is = record {
+  later = later;
+  last = last;
+  answers = λ all told.
+      let b = is.answers all told in
+      let f = first b.0 b.2 in
+      (f.0, b.1, f.1, b.3 ∙ ap (λ front. front ++ b.1) f.2 ∙ append_assoc f.0 (began ∷ []) b.1, b.4);
 }

@@ -27,12 +27,12 @@ use Rattle.run_report.specs.Searches.{Run}
 use Rattle.driver_run.specs.Searching.{turns_on, begun_with}
 use Rattle.driver_run.proofs.Turning.{own_offer, the_turn, none_offered, offered_more, events_more}
 
-take_none : (single : Bool) → ◌≡◌ {A = List ℕ} (take (most_plans single) []) []
+pub take_none : (single : Bool) → ◌≡◌ {A = List ℕ} (take (most_plans single) []) []
 take_none true = refl
 take_none false = refl
 
 -- nothing is kept as the turn begins
-none_kept : (setting : Setting) (began : ℕ) → kept_costs setting (begins_at the_turn began ∷ []) ≡ []
+pub none_kept : (setting : Setting) (began : ℕ) → kept_costs setting (begins_at the_turn began ∷ []) ≡ []
 none_kept setting began = take_none setting.single
 
 pub in_order : (setting : Setting) (began : ℕ) (offered : List Offered) → setting.shares ≡ 1 ∷ [] → AreInOrder setting (begun_with began offered ∷ [])

@@ -1,4 +1,5 @@
 pub mod Asking
+pub mod Beginning
 pub mod Closing
 pub mod Finding
 pub mod Going

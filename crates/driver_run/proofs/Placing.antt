@@ -1,5 +1,5 @@
 -- A plan that was placed changes nothing outside the family and base.part.
-use Rattle.std.proofs.Common.{◌≡◌, subst, refl, ℕ, ◌≤◌, List, Bool, true, false, Result, Ok, Err, OnOk, arith}
+use Rattle.std.proofs.Common.{◌≡◌, ◌∙◌, subst, refl, ℕ, ◌≤◌, List, [], Bool, true, false, Result, Ok, Err, OnOk, arith}
 use Rattle.lama_host.specs.Folder.{Told, Changes, last_of}
 use Rattle.lama_host.specs.StepLaws.{leaves_by}
 use Rattle.lama_host.specs.Steps.{Leaves}
@@ -27,3 +27,10 @@ kept_outside (Err e) before now base many number text is most = λ changes. tt
 pub same_outside : {T E : Type 0} (result : Result T E) (told : Told) → OnOk result (Leaves told told (SameOutside base_name))
 same_outside (Ok done) told = λ files idle held. (files, held, λ name other part. refl)
 same_outside (Err e) told = tt
+
+-- one change inside after another
+pub outside_then : (before mid now : Told) → mid.busy ≡ [] → Leaves before mid (SameOutside base_name) → Leaves mid now (SameOutside base_name) → Leaves before now (SameOutside base_name)
+outside_then before mid now quiet first second = λ files idle held.
+    let one = first files idle held in
+    let two = second one.0 quiet one.1 in
+    (two.0, two.1, λ name other part. two.2 name other part ∙ one.2 name other part)

@@ -1,6 +1,7 @@
-use Rattle.std.proofs.Common.{◌∙◌, refl, ap, length, arith}
-use Rattle.lama_host.specs.StepLaws.{stays_same}
-use Rattle.driver_run.proofs.Asking.{asks_none}
+use Rattle.std.proofs.Common.{◌∙◌, refl, ap, length, arith, true}
+use Rattle.lama_host.specs.StepLaws.{stays_same, stays_then}
+use Rattle.driver_run.proofs.Asking.{asks_none, asks_then}
+use Rattle.driver_run.proofs.Placing.{outside_then}
 use Rattle.driver_run.proofs.phases.take_phases.Goals as goal
 
 pub loop-phase-init : goal.loop-phase-init
@@ -22,3 +23,38 @@ take_phase-requires-clause-idle g c = c.loop-phase.invariant.stays.busy ∙ c.re
 
 pub take_phase-requires-clause-searching : goal.take_phase-requires-clause-searching
 take_phase-requires-clause-searching g c = c.loop-phase.invariant.searching
+
+pub loop-phase-preserved : goal.loop-phase-preserved
+loop-phase-preserved g c =
+    let told = g.F.Folder.told in
+    let answers = g.C.Clock.answers in
+    let inv = c.loop-phase.invariant in
+    let goes = c.take_phase.ensures.goes_on c.in-Ok-None.is in
+    record {
+      stays = stays_then (told c.args.folder.now) (told c.loop-phase.folder) (told c.take_phase.new.folder) inv.stays c.take_phase.ensures.stays;
+      outside = outside_then (told c.args.folder.now) (told c.loop-phase.folder) (told c.take_phase.new.folder) (inv.stays.busy ∙ c.requires.idle) inv.outside (rw c.in-Ok-None.is at c.take_phase.ensures.outside);
+      later = omega (arith, inv.later, c.take_phase.ensures.later);
+      asks = asks_then true (answers c.args.clock.now) (answers c.loop-phase.clock) (answers c.take_phase.new.clock) inv.asks (rw c.in-Ok-None.is at c.take_phase.ensures.asks);
+      config = c.take_phase.ensures.config ∙ inv.config;
+      setting = c.take_phase.ensures.setting ∙ inv.setting;
+      ends = c.take_phase.ensures.ends ∙ inv.ends;
+      began = c.take_phase.ensures.began ∙ inv.began;
+      searching = goes.0;
+      count = omega (arith, goes.1, inv.count);
+    }
+
+pub returns-in-Ok-Some-clause-outside : goal.returns-in-Ok-Some-clause-outside
+returns-in-Ok-Some-clause-outside g c =
+    let told = g.F.Folder.told in
+    let inv = c.loop-phase.invariant in
+    outside_then (told c.args.folder.now) (told c.loop-phase.folder) (told c.take_phase.new.folder) (inv.stays.busy ∙ c.requires.idle) inv.outside (rw c.in-Ok-Some.is at c.take_phase.ensures.outside)
+
+pub returns-in-Ok-Some-clause-asks : goal.returns-in-Ok-Some-clause-asks
+returns-in-Ok-Some-clause-asks g c =
+    let answers = g.C.Clock.answers in
+    asks_then _ (answers c.args.clock.now) (answers c.loop-phase.clock) (answers c.take_phase.new.clock) c.loop-phase.invariant.asks (rw c.in-Ok-Some.is at c.take_phase.ensures.asks)
+
+pub returns-in-Err-clause-asks : goal.returns-in-Err-clause-asks
+returns-in-Err-clause-asks g c =
+    let answers = g.C.Clock.answers in
+    asks_then _ (answers c.args.clock.now) (answers c.loop-phase.clock) (answers c.take_phase.new.clock) c.loop-phase.invariant.asks (rw c.in-Err.is at c.take_phase.ensures.asks)

@@ -18,5 +18,5 @@ invariant-loop-phase g l =
       ends : l.progress.ends ≡ l.fn.progress.ends;
       began : l.trail.began ≡ l.fn.trail.began;
       searching : IsSearching l.task l.phases l.many l.progress l.trail;
-      count : length l.trail.past.items ≡ l.phase;
+      count : length l.trail.past.items ≡ l._phase;
     }
