@@ -10,5 +10,6 @@ pub mod Passing
 pub mod Phasing
 pub mod Placing
 pub mod Stepping
+pub mod Stopping
 pub mod Tells
 pub mod Turning

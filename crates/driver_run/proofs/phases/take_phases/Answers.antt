@@ -1,7 +1,8 @@
-use Rattle.std.proofs.Common.{◌∙◌, refl, ap, length, arith, true}
+use Rattle.std.proofs.Common.{◌∙◌, refl, ap, length, arith, true, Ok}
 use Rattle.lama_host.specs.StepLaws.{stays_same, stays_then}
 use Rattle.driver_run.proofs.Asking.{asks_none, asks_then}
 use Rattle.driver_run.proofs.Placing.{outside_then}
+use Rattle.driver_run.proofs.Stopping.{stopped_so}
 use Rattle.driver_run.proofs.phases.take_phases.Goals as goal
 
 pub loop-phase-init : goal.loop-phase-init
@@ -29,12 +30,12 @@ loop-phase-preserved g c =
     let told = g.F.Folder.told in
     let answers = g.C.Clock.answers in
     let inv = c.loop-phase.invariant in
-    let goes = c.take_phase.ensures.goes_on c.in-Ok-None.is in
+    let goes = c.take_phase.ensures.goes_on (c.in-Ok-None.is ∙ ap Ok c.in-Ok-None.field-0-is) in
     record {
       stays = stays_then (told c.args.folder.now) (told c.loop-phase.folder) (told c.take_phase.new.folder) inv.stays c.take_phase.ensures.stays;
       outside = outside_then (told c.args.folder.now) (told c.loop-phase.folder) (told c.take_phase.new.folder) (inv.stays.busy ∙ c.requires.idle) inv.outside (rw c.in-Ok-None.is at c.take_phase.ensures.outside);
       later = omega (arith, inv.later, c.take_phase.ensures.later);
-      asks = asks_then true (answers c.args.clock.now) (answers c.loop-phase.clock) (answers c.take_phase.new.clock) inv.asks (rw c.in-Ok-None.is at c.take_phase.ensures.asks);
+      asks = asks_then true (answers c.args.clock.now) (answers c.loop-phase.clock) (answers c.take_phase.new.clock) inv.asks (rw (c.in-Ok-None.is, c.in-Ok-None.field-0-is) at c.take_phase.ensures.asks);
       config = c.take_phase.ensures.config ∙ inv.config;
       setting = c.take_phase.ensures.setting ∙ inv.setting;
       ends = c.take_phase.ensures.ends ∙ inv.ends;
@@ -52,9 +53,24 @@ returns-in-Ok-Some-clause-outside g c =
 pub returns-in-Ok-Some-clause-asks : goal.returns-in-Ok-Some-clause-asks
 returns-in-Ok-Some-clause-asks g c =
     let answers = g.C.Clock.answers in
-    asks_then _ (answers c.args.clock.now) (answers c.loop-phase.clock) (answers c.take_phase.new.clock) c.loop-phase.invariant.asks (rw c.in-Ok-Some.is at c.take_phase.ensures.asks)
+    asks_then _ (answers c.args.clock.now) (answers c.loop-phase.clock) (answers c.take_phase.new.clock) c.loop-phase.invariant.asks (rw (c.in-Ok-Some.is, c.in-Ok-Some.field-0-is) at c.take_phase.ensures.asks)
 
 pub returns-in-Err-clause-asks : goal.returns-in-Err-clause-asks
 returns-in-Err-clause-asks g c =
     let answers = g.C.Clock.answers in
     asks_then _ (answers c.args.clock.now) (answers c.loop-phase.clock) (answers c.take_phase.new.clock) c.loop-phase.invariant.asks (rw c.in-Err.is at c.take_phase.ensures.asks)
+
+pub returns-in-Ok-Some-clause-stays : goal.returns-in-Ok-Some-clause-stays
+returns-in-Ok-Some-clause-stays g c =
+    let told = g.F.Folder.told in
+    stays_then (told c.args.folder.now) (told c.loop-phase.folder) (told c.take_phase.new.folder) c.loop-phase.invariant.stays c.take_phase.ensures.stays
+
+pub returns-in-Err-clause-stays : goal.returns-in-Err-clause-stays
+returns-in-Err-clause-stays g c =
+    let told = g.F.Folder.told in
+    stays_then (told c.args.folder.now) (told c.loop-phase.folder) (told c.take_phase.new.folder) c.loop-phase.invariant.stays c.take_phase.ensures.stays
+
+pub returns-in-Err-clause-stopped : goal.returns-in-Err-clause-stopped
+returns-in-Err-clause-stopped g c =
+    let inv = c.loop-phase.invariant in
+    stopped_so c.args.task.now c.loop-phase.phases c.args.many c.loop-phase.progress c.take_phase.new.progress c.loop-phase.trail c.args.phases.now.config c.args.progress.now.core.setting c.args.trail.now.began inv.searching inv.config inv.setting inv.began (rw c.in-Err.is at c.take_phase.ensures.same)
