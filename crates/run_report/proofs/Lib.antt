@@ -1,0 +1,5 @@
+mod Codes
+mod Going
+mod Lists
+mod Phasing
+mod Planning
