@@ -1,6 +1,6 @@
 -- A run that has ended, and the code of its events.
-use Rattle.std.proofs.Common.{◌≡◌, ◌≢◌, ◌∙◌, sym, ap, subst, refl, ℕ, nat_lt, nat_eq, Bool, true, false, List, [], ◌∷◌, ◌++◌, length, map, append_assoc, if◌then◌else◌, inl, inr, None}
-use Rattle.std.proofs.lemmas.List.{append-nil, length-map}
+use Rattle.std.proofs.Common.{◌≡◌, ◌≢◌, ◌∙◌, sym, ap, subst, refl, ℕ, nat_lt, nat_eq, Bool, true, false, List, [], ◌∷◌, ◌++◌, length, map, if◌then◌else◌, inl, inr}
+use Rattle.std.proofs.lemmas.List.{length-map}
 use Rattle.std.proofs.lemmas.List.Elements.{filter_map-append}
 use Rattle.std.proofs.lemmas.Bool.Decides.{eqb_tells}
 use Rattle.sas_task.specs.declared.plans.Kept.{Kept}

@@ -1,5 +1,5 @@
 -- A turn begins, offers, and ends.
-use Rattle.std.proofs.Common.{◌≡◌, ◌∙◌, sym, ap, subst, refl, ℕ, ◌+◌, ◌<◌, true, List, [], ◌∷◌, ◌++◌, length, map, take, append_assoc, Option, Some, None}
+use Rattle.std.proofs.Common.{◌≡◌, ◌∙◌, sym, ap, subst, refl, ℕ, ◌+◌, ◌<◌, true, List, [], ◌∷◌, ◌++◌, length, map, take, append_assoc, Option, Some}
 use Rattle.std.proofs.lemmas.List.{append-nil, map-append, length-append, length-map, take_more}
 use Rattle.std.proofs.lemmas.List.FromFn.{length-range_with_len, get_or-range_with_len}
 use Rattle.std.proofs.lemmas.Grind.{flat_map-append}
@@ -17,9 +17,8 @@ use Rattle.driver_core.specs.States.{CoreState}
 use Rattle.driver_core.specs.Turns.{Turn, turn_of, begins_at, offers}
 use Rattle.driver_core.specs.Laws.{kept_costs-push_other}
 use Rattle.run_report.specs.declared.report.EntryEnd.{EntryEnd}
-use Rattle.run_report.specs.Turns.{BegunTurn, ToldTurn, begun_at, begun_of, offered_more, good_offer, candidate_of, offer_of, end_of, events_in, turn_events, turns_events, plans_of, candidates_of, ends_of, EachTurn}
-use Rattle.run_report.specs.Tells.{AreOfTurns, between, during, events_of, all_begun}
-use Rattle.run_report.specs.Plans.{ArePlans}
+use Rattle.run_report.specs.Turns.{BegunTurn, ToldTurn, begun_at, begun_of, offered_more, good_offer, candidate_of, offer_of, end_of, events_in, turn_events, turns_events, plans_of, candidates_of, EachTurn}
+use Rattle.run_report.specs.Tells.{between, during, events_of, all_begun}
 use Rattle.run_report.specs.Events.{AreInOrder}
 use Rattle.run_report.specs.Searches.{Run, EndsAs}
 use Rattle.run_report.specs.Runs.{IsUnderWay}

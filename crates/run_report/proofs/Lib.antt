@@ -1,4 +1,5 @@
 mod Codes
+mod Completing
 mod Going
 mod Lists
 mod Phasing

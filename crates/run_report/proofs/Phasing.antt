@@ -1,10 +1,6 @@
 -- One phase more of a search.
-use Rattle.std.proofs.Common.{◌≡◌, ◌≢◌, ◌∙◌, sym, ap, subst, refl, ℕ, ◌+◌, ◌<◌, ◌≤◌, zero, suc, List, [], ◌∷◌, ◌++◌, length, map, Bool, true, false, nat_lt, slice_get, Option, Some, None, arith}
-use Rattle.sas_task.specs.declared.contents.Parts.{Parts}
+use Rattle.std.proofs.Common.{◌≡◌, sym, subst, refl, ℕ, List, [], ◌∷◌, ◌++◌, false, Some}
 use Rattle.sas_task.specs.declared.plans.Kept.{Kept}
-use Rattle.sas_task.specs.Runs.{IsPlanOf}
-use Rattle.conf_text.specs.declared.config.Config.{Config}
-use Rattle.conf_text.specs.declared.config.Phase.{Phase}
 use Rattle.search_log.specs.Logs.{Content}
 use Rattle.search_log.specs.Members.{Member}
 use Rattle.run_report.specs.declared.report.Past.{Past}

@@ -1,5 +1,5 @@
 // What a loop over turns needs: how a run goes on, turn by turn and phase by phase, and its end.
-ghost use Rattle.std.specs.Prelude.{◌≡◌, ◌+◌, ◌<◌, ℕ, List, [], ◌∷◌, ◌++◌, length, map, Option, Some};
+ghost use Rattle.std.specs.Prelude.{◌≡◌, ◌+◌, ◌<◌, ℕ, List, [], ◌∷◌, ◌++◌, length, map, Option, Some, None};
 ghost use Rattle.std.specs.Prelude.{true, false, nat_eq, if◌then◌else◌};
 ghost use Rattle.std.specs.List.{last_or};
 ghost use Rattle.sas_task.specs.declared.contents.Parts.{Parts};
@@ -28,6 +28,7 @@ ghost use Rattle.run_report.specs.Tells.{Turns, between, during, events_of};
 ghost use Rattle.run_report.specs.Plans.{ArePlans};
 ghost use Rattle.run_report.specs.Searches.{Run, Search, Standing, Went, Ends, EndsAs};
 ghost use Rattle.run_report.specs.Searches.{after_plan, after_space};
+ghost use Rattle.run_report.specs.Complete.{IsComplete};
 ghost use Rattle.run_report.specs.Runs.{IsUnderWay, TellsRun};
 
 /// The turn of the next entry begins, and the core has its beginning.
@@ -105,4 +106,11 @@ pub fn a_run_is_told()
         IsUnderWay run core turns report.kept report.candidates report.ends →
         run.setting.start ≡ report.start → report.why ≡ why.Fault → report.code ≡ 35 →
         TellsRun run report turns }
+{}
+
+/// Where a run has one entry and no bound, and goes on after its first plan, its report is complete.
+pub fn a_run_with_room_is_complete()
+    ensures { (run : Run) (report : TheReport) (turns : Turns) →
+        length run.setting.shares ≡ 1 → run.setting.bound ≡ None → run.setting.single ≡ false →
+        TellsRun run report turns → IsComplete run.parts (run.config_of 1) report }
 {}
