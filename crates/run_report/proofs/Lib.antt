@@ -1,0 +1,7 @@
+mod Codes
+mod Completing
+mod Finishing
+mod Going
+mod Lists
+mod Phasing
+mod Planning
