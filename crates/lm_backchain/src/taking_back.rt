@@ -299,8 +299,8 @@ fn back_from(
 }
 
 /// What a node, with the operators that give one of its facts, is taken back to: single facts,
-/// ascending, and then sets. It is nothing where one of its facts is derived or holds in the initial
-/// state.
+/// ascending, and then sets. It is nothing where one of its facts is derived or holds in the
+/// initial state.
 pub fn taken_back(
     alloc: Global,
     task: &Task,
