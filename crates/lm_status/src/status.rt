@@ -129,7 +129,7 @@ impl Status {
         })
     }
 
-    /// Makes its weights those of a kind of cost. The graph stays, and so do rows of accepted nodes.
+    /// Makes its weights those of a kind of cost. The graph stays, and what rows stand for too.
     pub fn reweigh(&mut self, task: &Task, kind: CostKind)
         ensures { IsStatusOf task.now self.old.graph kind self.new }
     {
