@@ -1,12 +1,11 @@
 -- How a phase ends by its search, and what that shows of all plans.
-use Rattle.std.proofs.Common.{◌≡◌, ◌≢◌, ℕ, ◌≤◌, Bool, true, false, List, [], Option, Some, None, refl, ap, sym, ◌∙◌, subst, arith}
+use Rattle.std.proofs.Common.{◌≡◌, ℕ, Bool, true, false, List, Option, Some, None, refl, ap, sym, ◌∙◌, subst}
 use Rattle.std.specs.Prelude.{if◌then◌else◌, ◌&&◌, is_some, is_none, slice_get}
 use Rattle.std.proofs.lemmas.Bool.{false≢true}
 use Rattle.sas_task.specs.declared.contents.CostKind.{CostKind}
 use Rattle.sas_task.specs.declared.contents.CostKind.TheVariants.{Normal, One, PlusOne}
 use Rattle.sas_task.specs.declared.contents.Parts.{Parts}
 use Rattle.sas_task.specs.WellFormed.{IsWellFormed}
-use Rattle.sas_task.specs.Runs.{IsPlan, cost_of}
 use Rattle.conf_text.specs.declared.config.Config.{Config}
 use Rattle.conf_text.specs.declared.config.Phase.{Phase}
 use Rattle.phase_ends.specs.declared.ends.Searched.{Searched}
@@ -20,11 +19,11 @@ use Rattle.search_log.specs.SpaceLaws.{no_plan, no_cheaper_plan}
 use Rattle.search_log.specs.Spaces.{IsExhausted, is_exact, is_normal}
 use Rattle.lazy_search.specs.declared.end.SearchEnd.{SearchEnd}
 use Rattle.lazy_search.specs.declared.end.SearchEnd.TheVariants as search
-use Rattle.lazy_search.specs.Ends.{ClockHolds}
 use Rattle.iterated.specs.declared.ends.PhaseEnd.{PhaseEnd}
 use Rattle.iterated.specs.declared.ends.PhaseEnd.TheVariants.{Plan, Unsolvable, Best, Unsolved, Limit, Over, NoMemory}
 use Rattle.iterated.specs.Searches.{IsSearched, search_phase}
-use Rattle.iterated.specs.Ends.{PhaseEnds, ShowsOfPlans, AsksFrom, end_with, searched_of, search_end, space_end}
+use Rattle.iterated.specs.Closing.{end_with, searched_of, space_end}
+use Rattle.iterated.specs.Ends.{PhaseEnds, ShowsOfPlans}
 
 same_normal : (kind : CostKind) → is_normal kind ≡ is_normal_cost kind
 same_normal Normal = refl
@@ -56,13 +55,21 @@ unsolved_ends parts config place phase bound stop space log some at is =
     subst (λ (shown : Ending). PhaseEnds parts config place bound stop (space_end space log shown)) (sym (exhausted_is config place bound some)) (space_ends parts config place phase bound stop space log (is_exact_at config place) refl at is)
 
 -- a phase ends as its search did
-pub ends_so : (parts : Parts) (config : Config) (place : ℕ) (phase : Phase) (bound : Option ℕ) (stop : Option Stop) (end : SearchEnd) → slice_get config.phases place ≡ Some phase →
+ends_so : (parts : Parts) (config : Config) (place : ℕ) (phase : Phase) (bound : Option ℕ) (stop : Option Stop) (end : SearchEnd) → slice_get config.phases place ≡ Some phase →
     IsSearched parts phase bound stop end → PhaseEnds parts config place bound stop (end_with end (phase_end config place bound (searched_of end)))
 ends_so parts config place phase bound stop (search.Plan ops cost log) at is = record { phase = phase; at = at; searched = is; concludes = tt }
 ends_so parts config place phase bound stop (search.Unsolvable space log) at is = record { phase = phase; at = at; searched = is; concludes = tt }
 ends_so parts config place phase bound stop (search.Unsolved space log) at is = unsolved_ends parts config place phase bound stop space log is.holds.2 at is
 ends_so parts config place phase bound stop (search.Limit hit log) at is = record { phase = phase; at = at; searched = is; concludes = tt }
 ends_so parts config place phase bound stop search.NoMemory at is = record { phase = phase; at = at; searched = is; concludes = tt }
+
+-- the same, step by step
+pub run_ends : (parts : Parts) (config : Config) (place : ℕ) (phase : Phase) (bound : Option ℕ) (stop : Option Stop) (end : SearchEnd) (searched : Searched) (shown : Ending) (result : PhaseEnd) →
+    slice_get config.phases place ≡ Some phase → IsSearched parts phase bound stop end → searched ≡ searched_of end → shown ≡ phase_end config place bound searched → result ≡ end_with end shown →
+    PhaseEnds parts config place bound stop result
+run_ends parts config place phase bound stop end searched shown result at is by_search by_phase by_both =
+    let whole : result ≡ end_with end (phase_end config place bound (searched_of end)) = by_both ∙ ap (end_with end) (by_phase ∙ ap (phase_end config place bound) by_search) in
+    subst (PhaseEnds parts config place bound stop) (sym whole) (ends_so parts config place phase bound stop end at is)
 
 -- what an end shows of all plans
 pub shows_so : (parts : Parts) (config : Config) (place : ℕ) (bound : Option ℕ) (stop : Option Stop) (end : PhaseEnd) → IsWellFormed parts → PhaseEnds parts config place bound stop end → ShowsOfPlans parts bound end
@@ -76,14 +83,6 @@ shows_so parts config place bound stop (Unsolved space log last) formed is = tt
 shows_so parts config place bound stop (Limit hit log) formed is = tt
 shows_so parts config place bound stop Over formed is = tt
 shows_so parts config place bound stop NoMemory formed is = tt
-
--- the same, step by step
-pub run_ends : (parts : Parts) (config : Config) (place : ℕ) (phase : Phase) (bound : Option ℕ) (stop : Option Stop) (end : SearchEnd) (searched : Searched) (shown : Ending) (result : PhaseEnd) →
-    slice_get config.phases place ≡ Some phase → IsSearched parts phase bound stop end → searched ≡ searched_of end → shown ≡ phase_end config place bound searched → result ≡ end_with end shown →
-    PhaseEnds parts config place bound stop result
-run_ends parts config place phase bound stop end searched shown result at is by_search by_phase by_both =
-    let whole : result ≡ end_with end (phase_end config place bound (searched_of end)) = by_both ∙ ap (end_with end) (by_phase ∙ ap (phase_end config place bound) by_search) in
-    subst (PhaseEnds parts config place bound stop) (sym whole) (ends_so parts config place phase bound stop end at is)
 
 -- want of memory is passed on
 pub no_memory : (end : SearchEnd) (shown : Ending) → end ≡ search.NoMemory → end_with end shown ≡ NoMemory

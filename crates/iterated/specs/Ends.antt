@@ -1,5 +1,5 @@
 -- How the phases of a configuration end.
-use Rattle.std.specs.Prelude.{◌≡◌, ℕ, ◌≤◌, Bool, true, false, List, [], slice_get, Option, Some, None, is_none}
+use Rattle.std.specs.Prelude.{◌≡◌, ℕ, ◌≤◌, true, false, List, [], slice_get, Option, Some, None, is_none}
 use Rattle.sas_task.specs.declared.contents.Parts.{Parts}
 use Rattle.sas_task.specs.Runs.{IsPlan, cost_of}
 use Rattle.conf_text.specs.declared.config.Config.{Config}
@@ -8,12 +8,9 @@ use Rattle.phase_ends.specs.declared.ends.Begun.{Begun}
 use Rattle.phase_ends.specs.declared.ends.Begun.TheVariants as begins
 use Rattle.phase_ends.specs.declared.ends.Ending.{Ending}
 use Rattle.phase_ends.specs.declared.ends.Ending.TheVariants as ending
-use Rattle.phase_ends.specs.declared.ends.Searched.{Searched}
-use Rattle.phase_ends.specs.declared.ends.Searched.TheVariants as searched
 use Rattle.phase_ends.specs.Ends.{is_exact, place_after, place_next}
 use Rattle.search_log.specs.declared.setting.Stop.{Stop}
 use Rattle.search_log.specs.Logs.{Content}
-use Rattle.search_log.specs.Members.{Member}
 use Rattle.lazy_search.specs.declared.end.SearchEnd.{SearchEnd}
 use Rattle.lazy_search.specs.declared.end.SearchEnd.TheVariants as search
 use Rattle.lazy_search.specs.Ends.{ClockHolds}
@@ -30,31 +27,6 @@ search_end (Unsolved space log last) = search.Unsolved space log
 search_end (Limit hit log) = search.Limit hit log
 search_end Over = search.NoMemory
 search_end NoMemory = search.NoMemory
-
--- how the search of a phase ended, as ends of phases see it
-abbrev pub searched_of : SearchEnd → Searched
-searched_of (search.Plan ops cost log) = searched.Found
-searched_of (search.Unsolvable space log) = searched.Exhausted
-searched_of (search.Unsolved space log) = searched.Exhausted
-searched_of (search.Limit hit log) = searched.Limited
-searched_of search.NoMemory = searched.Short
-
--- A phase with nothing left below the bound is unsolved or best, by what its end is said to be.
-abbrev pub space_end : List Member → Content → Ending → PhaseEnd
-space_end space log (ending.Unsolved last) = Unsolved space log last
-space_end space log ending.Plan = Best space log
-space_end space log ending.Unsolvable = Best space log
-space_end space log ending.Best = Best space log
-space_end space log ending.Limit = Best space log
-space_end space log ending.NoMemory = Best space log
-
--- the end of a phase, by how its search ended and what that shows
-abbrev pub end_with : SearchEnd → Ending → PhaseEnd
-end_with (search.Plan ops cost log) shown = Plan ops cost log
-end_with (search.Unsolvable space log) shown = Unsolvable space log
-end_with (search.Unsolved space log) shown = space_end space log shown
-end_with (search.Limit hit log) shown = Limit hit log
-end_with search.NoMemory shown = NoMemory
 
 -- Where nothing is left below the bound, an exact phase shows that no plan is cheaper; another leaves that open, and it is the last where
 -- no phase stands behind it. A phase that was begun isn't over.

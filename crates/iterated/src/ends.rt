@@ -1,7 +1,7 @@
 // How a phase of a configuration ends.
 ghost use Rattle.std.specs.Prelude.{◌≡◌};
-ghost use Rattle.iterated.specs.Ends.{ending_of, end_with};
-ghost use Rattle.iterated.specs.Ends.{searched_of as searched_by};
+ghost use Rattle.iterated.specs.Closing.{end_with, searched_of as searched_by};
+ghost use Rattle.iterated.specs.Ends.{ending_of};
 
 use lama_num::Seq;
 use lazy_search::SearchEnd;

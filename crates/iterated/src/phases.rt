@@ -1,5 +1,5 @@
 // The phases of a configuration, one after another.
-ghost use Rattle.std.specs.Prelude.{◌≡◌, ◌≢◌, ◌≤◌, ◌<◌, ℕ, IfOk, IfSome, Some, None, length};
+ghost use Rattle.std.specs.Prelude.{◌≡◌, ◌≢◌, ◌≤◌, ◌<◌, IfOk, IfSome, length};
 ghost use Rattle.conf_text.specs.Accepted.{IsConfig};
 ghost use Rattle.phase_guide.specs.Guides.{IsFor as GuideIsFor};
 ghost use Rattle.phase_ends.specs.declared.ends.Begun.{Begun as TheBegun};
@@ -23,8 +23,8 @@ use std::marker::Model;
 
 /// The phases of a configuration of a task, one after another.
 ///
-/// One guide serves them all: it is turned to each phase, so that the graph of landmarks and the
-/// tables of the relaxation are made again only where a phase counts costs otherwise.
+/// One guide serves them all: it is turned to each phase, so that landmarks are found once, and
+/// what a phase goes by is made again only where it counts costs otherwise.
 #[derive(Drop)]
 pub struct Iterated {
     config: Config,

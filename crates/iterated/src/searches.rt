@@ -1,5 +1,5 @@
 // The search of a phase.
-ghost use Rattle.std.specs.Prelude.{◌≡◌, ◌≢◌, ◌≤◌, ◌<◌, ℕ, IfSome};
+ghost use Rattle.std.specs.Prelude.{◌≡◌, ◌≢◌, ◌≤◌, ◌<◌, IfSome};
 ghost use Rattle.conf_text.specs.Accepted.{IsPhase};
 ghost use Rattle.phase_guide.specs.Guides.{IsFor};
 ghost use Rattle.lazy_search.specs.Ends.{ClockHolds, IsBetween, TellsOn, moment_by};
