@@ -4,8 +4,8 @@ use crate::gripper::gripper;
 use std::test::Fail;
 use test_tasks::rivals;
 
-/// Of six landmarks three are to come: then the robot goes over with empty hands, where it has to be
-/// back for the ball.
+/// Of six landmarks three are to come: then the robot goes over with empty hands, where it has to
+/// be back for the ball.
 #[test]
 fn landmarks_of_a_ball_that_is_left(rt: HostRuntime) -> Result<(), Fail> {
     let all = answers(rt.alloc(), gripper(), "lazy_greedy([lm()])")?;

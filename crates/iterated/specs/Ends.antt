@@ -1,5 +1,5 @@
 -- How the phases of a configuration end.
-use Rattle.std.specs.Prelude.{◌≡◌, ℕ, ◌≤◌, Bool, true, false, List, [], slice_get, Option, Some, None, is_none}
+use Rattle.std.specs.Prelude.{◌≡◌, ℕ, ◌≤◌, true, false, List, [], slice_get, Option, Some, None, is_none}
 use Rattle.sas_task.specs.declared.contents.Parts.{Parts}
 use Rattle.sas_task.specs.Runs.{IsPlan, cost_of}
 use Rattle.conf_text.specs.declared.config.Config.{Config}

@@ -1,8 +1,12 @@
 //! The phases of a configuration, one after another.
+//!
+//! `specs/Ends` says how each of them ends, and `specs/Searches` what it asks of its search.
 #![tactic(auto)]
 
+mod copies;
 mod ends;
 mod phases;
+mod searches;
 
 pub use ends::PhaseEnd;
 pub use phase_guide::{PhaseGuide, guide};

@@ -94,6 +94,10 @@ pub on_ok : {T E A B : Type 0} (r : Result T E) → (A → B) → OnOk r A → O
 on_ok (Ok x) f a = f a
 on_ok (Err e) f a = tt
 
+pub if_all : {T E : Type 0} (r : Result T E) (A : Type 0) → A → OnOk r A
+if_all (Ok x) A a = a
+if_all (Err e) A a = tt
+
 pub if_both : {T E : Type 0} (r : Result T E) (P Q R : T → Type 0) → ((x : T) → P x → Q x → R x) → IfOk r P → IfOk r Q → IfOk r R
 if_both (Ok x) P Q R f p q = f x p q
 if_both (Err e) P Q R f p q = tt

@@ -85,6 +85,7 @@ fn run<G: Guide, C: Clock>(
         (G.fits guide.old task.now) machine.old Turned.Done }
     requires pops { machine.old.log.pops ≡ [] }
     requires same_task { G.is_for guide.old task.now }
+    ensures same_task { OnOk result (G.is_for guide.new task.now) }
     ensures meaning { (parts : Parts) (states : List (List ℕ)) (seen : TheSeen) → OnOk result
         (G.fits guide.new parts states seen ↔ G.fits guide.old parts states seen) }
     ensures halts { IfOk result (Halts (phase_of task.now setting.now shape)
@@ -128,6 +129,7 @@ fn go<G: Guide, C: Clock>(
     requires phase { IsPhase (phase_of task.now setting.now shape) }
     requires blank { IsBlank task.now setting.now shape machine.old }
     requires same_task { G.is_for guide.old task.now }
+    ensures same_task { OnOk result (G.is_for guide.new task.now) }
     ensures meaning { (parts : Parts) (states : List (List ℕ)) (seen : TheSeen) → OnOk result
         (G.fits guide.new parts states seen ↔ G.fits guide.old parts states seen) }
     ensures halts { IfOk result (Halts (phase_of task.now setting.now shape)
@@ -298,6 +300,7 @@ fn try_search<G: Guide, C: Clock>(
 ) -> Result<SearchEnd, NoMemory>
     requires setting { IsSetting setting.now }
     requires same_task { G.is_for guide.old task.now }
+    ensures same_task { OnOk result (G.is_for guide.new task.now) }
     ensures end { IfOk result
         (EndHolds (phase_by task.now setting.now (G.guides guide.old) (G.preferring guide.old))
         (G.fits guide.old task.now)) }
@@ -322,6 +325,8 @@ fn try_search<G: Guide, C: Clock>(
 }
 
 /// Searches a task from its initial state, guided by `guide`.
+///
+/// After want of memory nothing is said of the guide.
 pub fn search<G: Guide, C: Clock>(
     alloc: Global,
     task: &Task,
@@ -331,6 +336,7 @@ pub fn search<G: Guide, C: Clock>(
 ) -> SearchEnd
     requires setting { IsSetting setting.now }
     requires same_task { G.is_for guide.old task.now }
+    ensures same_task { result ≢ SearchEnd.NoMemory → G.is_for guide.new task.now }
     ensures end { EndHolds
         (phase_by task.now setting.now (G.guides guide.old) (G.preferring guide.old))
         (G.fits guide.old task.now) result }

@@ -1,6 +1,6 @@
 -- Where a node holds first, a possible first achiever was taken.
-use Rattle.std.proofs.Common.{◌≡◌, ◌∙◌, sym, ap, refl, subst, ℕ, zero, suc, ◌<◌, List, [], ◌∷◌, ◌++◌, Bool, true, false, ◌&&◌, not, nat_eq, Option, Some, None, slice_get, inl, inr, ◌⊎◌, arith, length}
-use Rattle.std.specs.List.{list_all, list_any}
+use Rattle.std.proofs.Common.{◌≡◌, ◌∙◌, sym, ap, refl, subst, ℕ, zero, suc, ◌<◌, List, Bool, true, false, ◌&&◌, not, nat_eq, Option, Some, None, slice_get, inl, inr, ◌⊎◌, arith, length}
+use Rattle.std.specs.List.{list_all}
 use Rattle.std.proofs.lemmas.Bool.{and_parts, and_from, not-true, not_from_false, both_ways, false_from_ne_true, cases_eq}
 use Rattle.std.proofs.lemmas.List.Folds.{list_all-append}
 use Rattle.std.proofs.lemmas.Option.{same_Some, none-some}
@@ -19,9 +19,9 @@ use Rattle.relaxed_task.specs.PlanLaws.{all_has, all_from}
 use Rattle.relaxed_task.specs.ReachLaws.{AllReached, none_hold, are_plain, start_reached, step_reached, gained_reached}
 use Rattle.relaxed_task.specs.Reached.{IsReached}
 use Rattle.lm_backchain.specs.Backchain.{has, is_open, conditions_of, IsPossibleFirst}
-use Rattle.lm_backchain.specs.Landmarks.{node_holds, HoldsAt, HoldsFirstAt}
+use Rattle.lm_backchain.specs.Landmarks.{node_holds, HoldsFirstAt}
 use Rattle.lm_backchain.proofs.FactLists.{any_has, has_any}
-use Rattle.lm_backchain.proofs.Runs.{run_first, run_step, IsStepIn}
+use Rattle.lm_backchain.proofs.Runs.{run_first, run_step}
 use Rattle.lm_backchain.proofs.Sources.{Source, written_source}
 
 -- what an open fact isn't

@@ -1,7 +1,7 @@
 -- What lists of conditions ask for, and the sets of one predicate.
-use Rattle.std.proofs.Common.{◌≡◌, ◌∙◌, sym, ap, refl, subst, ℕ, suc, ◌+◌, ◌<◌, ◌≤◌, List, [], ◌∷◌, ◌++◌, length, take, Bool, true, false, ◌&&◌, ◌||◌, nat_eq, Option, Some, None, slice_get, inl, inr, ◌⊎◌, arith}
+use Rattle.std.proofs.Common.{◌≡◌, ◌∙◌, sym, ap, refl, subst, ℕ, suc, ◌+◌, ◌<◌, ◌≤◌, List, [], ◌∷◌, ◌++◌, length, take, Bool, true, false, ◌&&◌, ◌||◌, nat_eq, Some, None, slice_get, inl, inr, ◌⊎◌, arith}
 use Rattle.std.specs.Prelude.{insert}
-use Rattle.std.specs.List.{list_all, list_any}
+use Rattle.std.specs.List.{list_all}
 use Rattle.std.proofs.lemmas.Bool.{and_parts, and_from, or_cases, or_left, or_right, both_ways, eqb-true}
 use Rattle.std.proofs.lemmas.Option.{same_Some, none-some}
 use Rattle.std.proofs.lemmas.List.{map-append}
@@ -14,7 +14,7 @@ use Rattle.relaxed_task.specs.Facts.{facts_equal, over_facts}
 use Rattle.relaxed_task.specs.PlanLaws.{has_append, all_has, all_from}
 use Rattle.lm_graph.specs.Nodes.{is_ascending}
 use Rattle.lm_backchain.specs.Asked.{IsOf, IsFactOf, IsAsked, Collects, AllAsk, IsSetFor, all_have, AddsSet, HasSets, PutsSet, AreFacts}
-use Rattle.lm_backchain.specs.Backchain.{has, is_open, Among, singles, IsPossibleFirst, IsShared, IsWanted, IsOfOnePredicate, GivesGreedy, shared, one_of}
+use Rattle.lm_backchain.specs.Backchain.{has, is_open, Among, singles, IsPossibleFirst, IsShared, IsOfOnePredicate, GivesGreedy, shared, one_of}
 use Rattle.lm_backchain.specs.Firsts.{AreFirsts}
 use Rattle.lm_backchain.specs.Growth.{IsTakenBack}
 use Rattle.lm_backchain.proofs.FactLists.{same_self, has_one, has_self, has_at, at_has}

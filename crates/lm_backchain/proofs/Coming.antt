@@ -1,6 +1,5 @@
 -- Nodes that come in, and the orders to what they were taken back from.
-use Rattle.std.proofs.Common.{◌≡◌, ◌≢◌, ◌∙◌, sym, ap, refl, subst, ℕ, zero, suc, ◌+◌, ◌<◌, ◌≤◌, List, [], ◌∷◌, ◌++◌, length, map, take, Bool, true, false, ◌||◌, Option, Some, None, slice_get, slice_set, inl, inr, ◌⊎◌, arith, append_assoc, length-append, if◌then◌else◌}
-use Rattle.std.specs.Prelude.{nat_lt}
+use Rattle.std.proofs.Common.{◌≡◌, ◌≢◌, ◌∙◌, sym, ap, refl, subst, ℕ, zero, suc, ◌+◌, ◌<◌, ◌≤◌, List, [], ◌∷◌, ◌++◌, length, map, take, Bool, true, false, ◌||◌, Option, Some, None, slice_get, slice_set, inl, inr, ◌⊎◌, arith, append_assoc, length-append}
 use Rattle.std.specs.List.{list_any}
 use Rattle.std.proofs.lemmas.Bool.{cases_eq, and_parts, and_from, or_cases, or_left, not-true, both_ways, le-leb}
 use Rattle.std.proofs.lemmas.List.{append-nil, length-map, map-append}
@@ -13,7 +12,7 @@ use Rattle.lm_graph.specs.declared.orders.Order.TheVariants.{Reasonable, Natural
 use Rattle.lm_graph.specs.declared.nodes.Node.{Node}
 use Rattle.lm_graph.specs.declared.nodes.Added.{Added}
 use Rattle.lm_graph.specs.declared.nodes.Added.TheVariants.{New, Known, Full}
-use Rattle.lm_graph.specs.Graphs.{Content, kind_of, most_nodes, IsGraph, Adds, AddsNew, FindsKnown, IsFull, PutsOrder, SameOrders}
+use Rattle.lm_graph.specs.Graphs.{Content, kind_of, most_nodes, IsGraph, Adds, IsFull, PutsOrder, SameOrders}
 use Rattle.lm_graph.specs.Nodes.{is_set, sets_of, IsAbsent, with_goal}
 use Rattle.lm_graph.specs.Orders.{stronger}
 use Rattle.relaxed_task.specs.Facts.{start_facts}
@@ -23,7 +22,7 @@ use Rattle.sas_task.specs.Runs.{start_of}
 use Rattle.lm_backchain.specs.Backchain.{has, Among, GivesGreedy, shared, one_of, IsNode, back, node_of}
 use Rattle.lm_backchain.specs.Growth.{Takes, IsGreedy, Works, IsTakenBack, IsTakenBackAt, number_in}
 use Rattle.lm_backchain.proofs.FactLists.{has_self, same_self}
-use Rattle.lm_backchain.proofs.Listing.{push_cases, front_get, among_cases, among_one, among_front, among_none, read_at, take_more_at}
+use Rattle.lm_backchain.proofs.Listing.{push_cases, front_get, among_cases, among_one, among_none, read_at, take_more_at}
 
 abbrev facts_of : Node → List Fact
 facts_of n = n.facts

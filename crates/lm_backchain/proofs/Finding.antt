@@ -1,8 +1,8 @@
 -- The possible first achievers are found one after the other.
-use Rattle.std.proofs.Common.{◌≡◌, ◌∙◌, sym, ap, refl, subst, ℕ, ◌+◌, ◌<◌, ◌≤◌, List, [], ◌∷◌, ◌++◌, length, take, true, false, IsTrue, Some, slice_get, inl, inr, ◌⊎◌, arith}
-use Rattle.std.specs.List.{list_all, list_any}
-use Rattle.std.proofs.lemmas.Bool.{and_parts, or_cases, or_left, or_right, both_ways, cases_eq}
-use Rattle.std.proofs.lemmas.List.Folds.{list_all-append}
+use Rattle.std.proofs.Common.{◌≡◌, ◌∙◌, sym, ap, subst, ℕ, ◌+◌, ◌≤◌, List, [], ◌∷◌, ◌++◌, length, take, true, false, nat_eq, IsTrue, Some, slice_get, inl, inr, ◌⊎◌, arith}
+use Rattle.std.specs.List.{list_all}
+use Rattle.std.proofs.lemmas.Bool.{and_parts, or_cases, or_left, or_right, cases_eq, eqb-true}
+use Rattle.std.proofs.lemmas.List.Folds.{list_all-append, list_any-append}
 use Rattle.std.proofs.lemmas.Option.{same_Some, slice_get_within}
 use Rattle.lama_num.specs.Lists.{list_all_get}
 use Rattle.sas_task.specs.Laws.{operator-at, effect-tests, start-state}
@@ -16,6 +16,7 @@ use Rattle.sas_task.specs.declared.contents.Fact.{Fact}
 use Rattle.sas_task.specs.declared.contents.Operator.{Operator}
 use Rattle.sas_task.specs.declared.contents.Parts.{Parts}
 use Rattle.relaxed_task.specs.Facts.{over_facts}
+use Rattle.relaxed_task.specs.Numbers.{is_among}
 use Rattle.relaxed_task.specs.PlanLaws.{has_append}
 use Rattle.relaxed_task.specs.Reached.{IsReached}
 use Rattle.relaxed_task.specs.Relaxations.{IsRelaxed}
@@ -23,8 +24,10 @@ use Rattle.h_add.specs.Values.{Evaluator, IsEvaluated}
 use Rattle.sas_task.specs.WellFormed.{IsWellFormed}
 use Rattle.std.proofs.lemmas.Bool.{and_from}
 use Rattle.lm_backchain.specs.Backchain.{has, conditions_of, Among, IsPossibleFirst}
-use Rattle.lm_backchain.specs.Firsts.{Knows, AreReached, Achieves, IsEarlier, HasFirsts, AreFirsts}
+use Rattle.lm_backchain.specs.Firsts.{Knows, AreReached, Achieves, IsIn, HasFirsts, AreFirsts}
+use Rattle.lm_backchain.specs.Givers.{AreGivers}
 use Rattle.lm_backchain.proofs.FactLists.{has_one}
+use Rattle.lm_backchain.proofs.Giving.{given_there}
 use Rattle.lm_backchain.proofs.Listing.{among_front, among_back, among_cases, among_one, among_itself, among_none, take_more_at}
 
 -- the conditions of an effect of the task are its facts
@@ -65,16 +68,16 @@ knows_from parts node start old new is relaxed same there evaluated =
       evaluated = subst (λ s. IsEvaluated parts One s node new.costs) is (evaluated parts One relaxed of there);
     }
 
-pub no_firsts : (parts : Parts) (node : List Fact) → HasFirsts parts node 0 0 []
-no_firsts parts node = record {
+pub no_firsts : (parts : Parts) (node : List Fact) (next : ℕ) → HasFirsts parts node [] next 0 []
+no_firsts parts node next = record {
   each = λ conds m. absurd (among_none conds m);
-  all = λ conds first h. elim h [ inl lt ↦ absurd (omega (arith, lt)) | inr p ↦ let lt = p.1 in absurd (omega (arith, lt)) ];
+  all = λ conds first h. elim h [ inl there ↦ let k : false ≡ true = there in absurd (cc) | inr p ↦ let lt = p.1 in absurd (omega (arith, lt)) ];
 }
 
 -- which effect a possible first achiever is of
-pub earlier_cases : (op place end_op end_place : ℕ) → IsEarlier op place end_op (end_place + 1) → IsEarlier op place end_op end_place ⊎ ((op ≡ end_op) × (place ≡ end_place))
-earlier_cases op place end_op end_place (inl lt) = inl (inl lt)
-earlier_cases op place end_op end_place (inr p) = elim (cases_eq place end_place) [
+in_cases : (done : List ℕ) (end_op end_place op place : ℕ) → IsIn done end_op (end_place + 1) op place → IsIn done end_op end_place op place ⊎ ((op ≡ end_op) × (place ≡ end_place))
+in_cases done end_op end_place op place (inl there) = inl (inl there)
+in_cases done end_op end_place op place (inr p) = elim (cases_eq place end_place) [
   | inl e ↦ inr (p.0, e)
   | inr ne ↦ let lt = p.1 in inl (inr (p.0, omega (arith, ne, lt)))
 ]
@@ -89,8 +92,8 @@ module _ (parts : Parts) (node : List Fact) (op place : ℕ) (o : Operator) (e :
       let so = same_operator conds first same in
       same_Some _ _ (sym own ∙ (ap (λ (p : Operator). slice_get p.effects place) so ∙ (ap (slice_get first.operator.effects) (sym there) ∙ first.effect_at)))
 
-  pub firsts_more : (lists : List (List Fact)) → HasFirsts parts node op place lists → Achieves parts node o e → HasFirsts parts node op (place + 1) (lists ++ conditions_of o e ∷ [])
-  firsts_more lists h achieves = record {
+  pub firsts_more : (done : List ℕ) (lists : List (List Fact)) → HasFirsts parts node done op place lists → Achieves parts node o e → HasFirsts parts node done op (place + 1) (lists ++ conditions_of o e ∷ [])
+  firsts_more done lists h achieves = record {
     each = λ conds m. elim (among_cases lists (conditions_of o e ∷ []) conds m) [
       | inl l ↦ h.each conds l
       | inr r ↦ record {
@@ -105,7 +108,7 @@ module _ (parts : Parts) (node : List Fact) (op place : ℕ) (o : Operator) (e :
         reached = λ f asked. achieves.reached f (subst (λ cs. has cs f ≡ true) (among_one (conditions_of o e) conds r) asked);
       }
     ];
-    all = λ conds first earlier. elim (earlier_cases first.op first.place op place earlier) [
+    all = λ conds first in_it. elim (in_cases done op place first.op first.place in_it) [
       | inl before ↦ among_front lists _ conds (h.all conds first before)
       | inr p ↦
           let so = same_operator conds first p.0 in
@@ -115,10 +118,10 @@ module _ (parts : Parts) (node : List Fact) (op place : ℕ) (o : Operator) (e :
     ];
   }
 
-  pub firsts_same : (lists : List (List Fact)) → HasFirsts parts node op place lists → (Achieves parts node o e → ⊥) → HasFirsts parts node op (place + 1) lists
-  firsts_same lists h none = record {
+  pub firsts_same : (done : List ℕ) (lists : List (List Fact)) → HasFirsts parts node done op place lists → (Achieves parts node o e → ⊥) → HasFirsts parts node done op (place + 1) lists
+  firsts_same done lists h none = record {
     each = h.each;
-    all = λ conds first earlier. elim (earlier_cases first.op first.place op place earlier) [
+    all = λ conds first in_it. elim (in_cases done op place first.op first.place in_it) [
       | inl before ↦ h.all conds first before
       | inr p ↦
           let so = same_operator conds first p.0 in
@@ -132,23 +135,29 @@ module _ (parts : Parts) (node : List Fact) (op place : ℕ) (o : Operator) (e :
   }
 
 -- on to the next operator
-pub firsts_next : (parts : Parts) (node : List Fact) (op n : ℕ) (o : Operator) (lists : List (List Fact)) → slice_get parts.operators op ≡ Some o → length o.effects ≤ n → HasFirsts parts node op n lists → HasFirsts parts node (op + 1) 0 lists
-firsts_next parts node op n o lists at all h = record {
+pub firsts_next : (parts : Parts) (node : List Fact) (done : List ℕ) (op n next : ℕ) (o : Operator) (lists : List (List Fact)) → slice_get parts.operators op ≡ Some o → length o.effects ≤ n → HasFirsts parts node done op n lists →
+    HasFirsts parts node (done ++ op ∷ []) next 0 lists
+firsts_next parts node done op n next o lists at all h = record {
   each = h.each;
-  all = λ conds first earlier. h.all conds first (elim (cases_eq first.op op) [
-    | inl e ↦
+  all = λ conds first in_it. h.all conds first (elim in_it [
+    | inl there ↦ by conds first (or_cases (is_among done first.op) (is_among (op ∷ []) first.op) (sym (list_any-append (nat_eq first.op) done (op ∷ [])) ∙ there))
+    | inr p ↦ let lt = p.1 in absurd (omega (arith, lt))
+  ]);
+}
+  where
+    by : (conds : List Fact) (first : IsPossibleFirst parts node conds) → (is_among done first.op ≡ true) ⊎ (is_among (op ∷ []) first.op ≡ true) → IsIn done op n first.op first.place
+    by conds first (inl there) = inl there
+    by conds first (inr own) =
+        let e : first.op ≡ op = elim (or_cases (nat_eq first.op op) false own) [ inl is ↦ eqb-true first.op op is | inr none ↦ absurd (cc) ] in
         let so : o ≡ first.operator = same_Some _ _ (sym at ∙ (ap (slice_get parts.operators) (sym e) ∙ first.at)) in
         let lt = slice_get_within first.operator.effects first.place first.effect first.effect_at in
         let same = ap (λ (q : Operator). length q.effects) so in
         inr (e, omega (arith, lt, same, all))
-    | inr ne ↦ inl (elim earlier [ inl lt ↦ omega (arith, lt, ne) | inr p ↦ let lt = p.1 in absurd (omega (arith, lt)) ])
-  ]);
-}
 
-pub firsts_done : (parts : Parts) (node : List Fact) (n : ℕ) (lists : List (List Fact)) → length parts.operators ≤ n → HasFirsts parts node n 0 lists → AreFirsts parts node lists
-firsts_done parts node n lists all h = record {
+pub firsts_done : (parts : Parts) (node : List Fact) (ops : List ℕ) (lists : List (List Fact)) → AreGivers parts node ops → HasFirsts parts node ops 0 0 lists → AreFirsts parts node lists
+firsts_done parts node ops lists are h = record {
   each = h.each;
-  all = λ conds first. h.all conds first (inl (let lt = slice_get_within parts.operators first.op first.operator first.at in omega (arith, lt, all)));
+  all = λ conds first. h.all conds first (inl (given_there parts node ops first.op first.place first.operator first.effect are first.at first.effect_at first.gives));
 }
 
 -- the initial state has a value for each variable

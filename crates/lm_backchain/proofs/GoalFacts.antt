@@ -1,23 +1,21 @@
 -- The goal facts come in.
-use Rattle.std.proofs.Common.{◌≡◌, ◌≢◌, ◌∙◌, sym, ap, refl, subst, ℕ, zero, suc, ◌+◌, ◌<◌, ◌≤◌, List, [], ◌∷◌, ◌++◌, length, map, take, Bool, true, false, ◌||◌, not, Option, Some, None, slice_get, inl, inr, ◌⊎◌, arith, if◌then◌else◌, length-append}
+use Rattle.std.proofs.Common.{◌≡◌, ◌≢◌, ◌∙◌, sym, ap, refl, subst, ℕ, zero, suc, ◌<◌, ◌≤◌, List, [], ◌∷◌, ◌++◌, length, map, take, Bool, true, false, ◌||◌, not, Some, None, slice_get, inl, inr, arith, if◌then◌else◌, length-append}
 use Rattle.std.specs.Prelude.{filter}
-use Rattle.std.specs.List.{list_any}
-use Rattle.std.proofs.lemmas.Bool.{or_cases, or_left, or_right, both_ways, not-true, not_from_false}
+use Rattle.std.proofs.lemmas.Bool.{or_cases, or_left, or_right, both_ways, not_from_false}
 use Rattle.std.proofs.lemmas.List.{append-nil, length-map, map-append}
 use Rattle.std.proofs.lemmas.List.Elements.{filter-append}
-use Rattle.std.proofs.lemmas.Option.{same_Some, none-some}
+use Rattle.std.proofs.lemmas.Option.{none-some}
 use Rattle.sas_task.specs.Facts.{same_fact}
 use Rattle.sas_task.specs.declared.contents.Fact.{Fact}
 use Rattle.sas_task.specs.declared.contents.Parts.{Parts}
-use Rattle.relaxed_task.specs.Facts.{distinct_facts, facts_equal, over_facts}
-use Rattle.relaxed_task.specs.PlanLaws.{has_append}
+use Rattle.relaxed_task.specs.Facts.{distinct_facts, facts_equal}
 use Rattle.lm_graph.specs.declared.nodes.Node.{Node}
 use Rattle.lm_graph.specs.declared.nodes.Added.{Added}
 use Rattle.lm_graph.specs.declared.nodes.Added.TheVariants.{New, Known, Full}
 use Rattle.lm_graph.specs.Graphs.{Content, kind_of, most_nodes, Adds}
 use Rattle.lm_graph.specs.Nodes.{sets_of}
 use Rattle.lm_backchain.specs.Backchain.{has, Among, IsNode, goal, node_of, singles}
-use Rattle.lm_backchain.specs.Growth.{HasGoals, Works, IsGreedy}
+use Rattle.lm_backchain.specs.Growth.{HasGoals, Works}
 use Rattle.lm_backchain.proofs.FactLists.{at_has, has_at, has_self, has_one}
 use Rattle.lm_backchain.proofs.Coming.{Extends, extends, known_same}
 use Rattle.lm_backchain.proofs.Listing.{front_get, single_at, at_single, among_none}

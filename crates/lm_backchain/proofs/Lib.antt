@@ -3,6 +3,7 @@ pub mod Asking
 pub mod Costs
 pub mod FactLists
 pub mod Finding
+pub mod Giving
 pub mod GoalFacts
 pub mod Coming
 pub mod Listing

@@ -9,17 +9,15 @@ use Rattle.sas_task.specs.declared.contents.Fact.{Fact}
 use Rattle.sas_task.specs.declared.contents.Parts.{Parts}
 use Rattle.relaxed_task.specs.Reached.{IsReached}
 use Rattle.lm_graph.specs.declared.orders.Order.{Order}
-use Rattle.lm_graph.specs.declared.orders.Order.TheVariants.{Reasonable, Natural, GreedyNecessary}
+use Rattle.lm_graph.specs.declared.orders.Order.TheVariants.{Natural, GreedyNecessary}
 use Rattle.lm_graph.specs.declared.nodes.Node.{Node}
 use Rattle.lm_graph.specs.Graphs.{Content, kind_of, most_nodes, IsGraph, PutsOrder}
 use Rattle.lm_graph.specs.Nodes.{sets_of}
 use Rattle.lm_graph.specs.Orders.{stronger}
-use Rattle.lm_backchain.specs.Backchain.{Among, Backchain, GivesGreedy, GivesNatural, unreached, IsNode, goal, back, IsStrongest, is_open, node_of}
-use Rattle.lm_backchain.specs.Firsts.{IsEarlier}
+use Rattle.lm_backchain.specs.Backchain.{Among, Backchain, GivesGreedy, GivesNatural, unreached, IsNode, goal, back, IsStrongest, node_of}
 use Rattle.lm_backchain.specs.Growth.{Works, IsGreedyKind}
-use Rattle.lm_backchain.specs.Strengths.{IsGreedyAt, IsStrongestAt, IsUpTo, AreTaskFacts, IsOpenSingle, KnowsAt}
+use Rattle.lm_backchain.specs.Strengths.{IsEarlier, IsStrongestAt, IsUpTo, AreTaskFacts, IsOpenSingle, KnowsAt}
 use Rattle.h_add.specs.Values.{Evaluator}
-use Rattle.lm_backchain.proofs.Finding.{earlier_cases}
 use Rattle.lm_backchain.proofs.GoalFacts.{goal_among}
 use Rattle.lm_backchain.proofs.Sound.{node_facts}
 
@@ -58,6 +56,13 @@ not_itself parts a b same (unreached {b = x} {c = y} free other ne never) = ne (
   where
     by : x ∷ [] ≡ y ∷ [] → x ≡ y
     by e = cc
+
+earlier_cases : (i j before after : ℕ) → IsEarlier i j before (after + 1) → IsEarlier i j before after ⊎ ((i ≡ before) × (j ≡ after))
+earlier_cases i j before after (inl lt) = inl (inl lt)
+earlier_cases i j before after (inr p) = elim (cases_eq j after) [
+  | inl e ↦ inr (p.0, e)
+  | inr ne ↦ let lt = p.1 in inl (inr (p.0, omega (arith, ne, lt)))
+]
 
 module _ (parts : Parts) (old new : Content) (before after : ℕ) (nodes : new.nodes ≡ old.nodes) (u : IsUpTo parts old before after) where
   back_at : (i : ℕ) (a : List Fact) → slice_get (sets_of new.nodes) i ≡ Some a → slice_get (sets_of old.nodes) i ≡ Some a

@@ -1,5 +1,5 @@
 -- What lists of conditions ask for.
-use Rattle.std.specs.Prelude.{◌≡◌, ℕ, ◌≤◌, List, Bool, true, ◌&&◌, ◌⊎◌, length, Some}
+use Rattle.std.specs.Prelude.{◌≡◌, ℕ, ◌≤◌, List, Bool, true, ◌⊎◌, length, Some}
 use Rattle.std.specs.List.{list_all}
 use Rattle.sas_task.specs.Facts.{predicate_of}
 use Rattle.sas_task.specs.declared.contents.Fact.{Fact}

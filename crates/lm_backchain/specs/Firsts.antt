@@ -1,11 +1,12 @@
 -- Possible first achievers, as they are found.
-use Rattle.std.specs.Prelude.{◌≡◌, ℕ, ◌<◌, List, ◌⊎◌, true, length}
+use Rattle.std.specs.Prelude.{◌≡◌, ℕ, ◌<◌, List, ◌⊎◌, true}
 use Rattle.sas_task.specs.Runs.{start_of}
 use Rattle.sas_task.specs.declared.contents.CostKind.TheVariants.{One}
 use Rattle.sas_task.specs.declared.contents.Effect.{Effect}
 use Rattle.sas_task.specs.declared.contents.Fact.{Fact}
 use Rattle.sas_task.specs.declared.contents.Operator.{Operator}
 use Rattle.sas_task.specs.declared.contents.Parts.{Parts}
+use Rattle.relaxed_task.specs.Numbers.{is_among}
 use Rattle.relaxed_task.specs.Reached.{IsReached}
 use Rattle.relaxed_task.specs.Relaxations.{IsRelaxed}
 use Rattle.h_add.specs.Values.{Evaluator, IsEvaluated}
@@ -25,14 +26,14 @@ pub record Achieves (parts : Parts) (node : List Fact) (operator : Operator) (ef
   pub gives : has node effect.fact ≡ true
   pub reached : AreReached parts node (conditions_of operator effect)
 
--- the effect stands before another, by the number of its operator and its place there
-abbrev pub IsEarlier : ℕ → ℕ → ℕ → ℕ → Type 0
-IsEarlier op place end_op end_place = (op < end_op) ⊎ ((op ≡ end_op) × (place < end_place))
+-- it is an effect of one of some operators, or of another before a place
+abbrev pub IsIn : List ℕ → ℕ → ℕ → ℕ → ℕ → Type 0
+IsIn done end_op end_place op place = (is_among done op ≡ true) ⊎ ((op ≡ end_op) × (place < end_place))
 
--- the conditions of the possible first achievers up to an effect
-pub record HasFirsts (parts : Parts) (node : List Fact) (op place : ℕ) (lists : List (List Fact)) : Type 0 where
+-- the conditions of the possible first achievers among these
+pub record HasFirsts (parts : Parts) (node : List Fact) (done : List ℕ) (op place : ℕ) (lists : List (List Fact)) : Type 0 where
   pub each : (conds : List Fact) → Among lists conds → IsPossibleFirst parts node conds
-  pub all : (conds : List Fact) (first : IsPossibleFirst parts node conds) → IsEarlier first.op first.place op place → Among lists conds
+  pub all : (conds : List Fact) (first : IsPossibleFirst parts node conds) → IsIn done op place first.op first.place → Among lists conds
 
 -- the conditions of all
 pub record AreFirsts (parts : Parts) (node : List Fact) (lists : List (List Fact)) : Type 0 where

@@ -1,5 +1,5 @@
 -- Graphs that grow: nodes are taken back in turn.
-use Rattle.std.specs.Prelude.{◌≡◌, ◌≢◌, ℕ, ◌<◌, List, [], ◌++◌, map, take, length, ◌⊎◌, slice_get, Option, Some, None}
+use Rattle.std.specs.Prelude.{◌≡◌, ℕ, ◌<◌, List, ◌++◌, map, take, length, ◌⊎◌, slice_get, Option, Some, None}
 use Rattle.sas_task.specs.declared.contents.Fact.{Fact}
 use Rattle.sas_task.specs.declared.contents.Parts.{Parts}
 use Rattle.relaxed_task.specs.Facts.{distinct_facts}
@@ -9,7 +9,7 @@ use Rattle.lm_graph.specs.declared.nodes.Added.{Added}
 use Rattle.lm_graph.specs.declared.nodes.Added.TheVariants.{New, Known, Full}
 use Rattle.lm_graph.specs.Graphs.{Content, kind_of, most_nodes}
 use Rattle.lm_graph.specs.Nodes.{sets_of}
-use Rattle.lm_backchain.specs.Backchain.{Among, GivesGreedy, GivesNatural, IsNode, IsStrongest, node_of, singles}
+use Rattle.lm_backchain.specs.Backchain.{Among, GivesGreedy, IsNode, node_of, singles}
 
 -- the lists are all that a node is taken back to
 pub record IsTakenBack (parts : Parts) (b : List Fact) (lists : List (List Fact)) : Type 0 where

@@ -1,5 +1,5 @@
 -- Orders, as they become the strongest.
-use Rattle.std.specs.Prelude.{◌≡◌, ℕ, List, true, length, slice_get, Some}
+use Rattle.std.specs.Prelude.{◌≡◌, ℕ, ◌<◌, ◌⊎◌, List, true, length, slice_get, Some}
 use Rattle.std.specs.List.{list_all}
 use Rattle.sas_task.specs.WellFormed.{is_fact}
 use Rattle.sas_task.specs.declared.contents.Fact.{Fact}
@@ -8,8 +8,12 @@ use Rattle.lm_graph.specs.Graphs.{Content, kind_of}
 use Rattle.lm_graph.specs.Nodes.{sets_of}
 use Rattle.lm_backchain.specs.Backchain.{Among, IsStrongest, is_open}
 use Rattle.h_add.specs.Values.{Evaluator}
-use Rattle.lm_backchain.specs.Firsts.{Knows, IsEarlier}
+use Rattle.lm_backchain.specs.Firsts.{Knows}
 use Rattle.lm_backchain.specs.Growth.{IsGreedyKind}
+
+-- a pair of places stands before another, by its first and then by its second
+abbrev pub IsEarlier : ℕ → ℕ → ℕ → ℕ → Type 0
+IsEarlier i j before after = (i < before) ⊎ ((i ≡ before) × (j < after))
 
 -- between the nodes of two places
 pub record IsGreedyAt (parts : Parts) (graph : Content) (i j : ℕ) : Type 0 where

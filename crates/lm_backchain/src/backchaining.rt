@@ -1,14 +1,18 @@
 // The graph of backchaining.
-ghost use Rattle.std.specs.Prelude.{◌≡◌, ℕ, List, slice_get, Some, IfOk};
+ghost use Rattle.std.specs.Prelude.{◌≡◌, [], ℕ, List, length, slice_get, Some, IfOk};
 ghost use Rattle.sas_task.specs.Runs.{start_of};
+ghost use Rattle.sas_task.specs.declared.contents.CostKind.TheVariants.{One};
 ghost use Rattle.sas_task.specs.declared.contents.Fact.{Fact as TheFact};
+ghost use Rattle.relaxed_task.specs.Relaxations.{IsRelaxed};
 ghost use Rattle.lm_graph.specs.Graphs.{kind_of};
 ghost use Rattle.lm_graph.specs.Nodes.{sets_of};
 ghost use Rattle.lm_graph.specs.declared.orders.Order.TheVariants.{Natural as NaturalOrder};
 ghost use Rattle.lm_graph.specs.declared.orders.Order.TheVariants.{GreedyNecessary as GreedyOrder};
 ghost use Rattle.lm_backchain.specs.Backchain.{Among, Backchain};
+ghost use Rattle.lm_backchain.specs.Growth.{Works};
 ghost use Rattle.lm_backchain.specs.Landmarks.{Landmark, GreedyNecessary, Natural};
 
+use crate::givers::Givers;
 use crate::growing::{add_goals, grow};
 use crate::natural::add_natural;
 use axiom_eval::Axioms;
@@ -25,6 +29,20 @@ fn initial_state(alloc: Global, task: &Task) -> Result<Vec<u32>, NoMemory>
     let mut state = Vec::from_slice(alloc, &task.parts().init)?;
     axioms.settle(task, &mut state);
     Ok(state)
+}
+
+// The nodes with their greedy-necessary orders.
+fn grown(alloc: Global, task: &Task, start: &[u32], add: &mut Add) -> Result<Graph, NoMemory>
+    requires start { start.now ≡ start_of task.now }
+    requires add { IsRelaxed task.now One add.old.relaxed }
+    ensures works { IfOk result (λ graph. Works task.now graph (length graph.nodes) []) }
+    ensures add { add.new.relaxed ≡ add.old.relaxed }
+{
+    let givers = Givers::new(alloc, task)?;
+    let mut graph = Graph::new(alloc);
+    add_goals(task, &givers, &mut graph)?;
+    grow(alloc, task, start, &givers, add, &mut graph)?;
+    Ok(graph)
 }
 
 /// The landmarks of a task by backchaining from its goal facts, with their orders.
@@ -48,9 +66,7 @@ pub fn landmarks(alloc: Global, task: &Task) -> Result<Graph, NoMemory>
 {
     let start = initial_state(alloc, task)?;
     let mut add = Add::new(alloc, task, CostKind::One)?;
-    let mut graph = Graph::new(alloc);
-    add_goals(task, &mut graph)?;
-    grow(alloc, task, &start, &mut add, &mut graph)?;
+    let mut graph = grown(alloc, task, &start, &mut add)?;
     add_natural(alloc, task, &start, &mut add, &mut graph)?;
     Ok(graph)
 }

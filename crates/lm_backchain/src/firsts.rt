@@ -1,5 +1,6 @@
 // Possible first achievers.
-ghost use Rattle.std.specs.Prelude.{◌≡◌, ◌<◌, ◌+◌, ◌++◌, ◌↔◌, ℕ, List, length, slice_get, Some};
+ghost use Rattle.std.specs.Prelude.{◌≡◌, ◌<◌, ◌+◌, ◌++◌, ◌∷◌, [], ◌↔◌, ℕ, List, length};
+ghost use Rattle.std.specs.Prelude.{slice_get, Some};
 ghost use Rattle.std.specs.Prelude.{IsTrue, IfOk, OnOk};
 ghost use Rattle.std.specs.Bool.{OnTrue, OnFalse};
 ghost use Rattle.std.specs.List.{list_all};
@@ -11,6 +12,7 @@ ghost use Rattle.sas_task.specs.declared.contents.Parts.{Parts};
 ghost use Rattle.relaxed_task.specs.Reached.{IsReached};
 ghost use Rattle.lm_backchain.specs.Backchain.{conditions_of};
 ghost use Rattle.lm_backchain.specs.Firsts.{Knows, AreReached, Achieves, HasFirsts, AreFirsts};
+ghost use Rattle.lm_backchain.specs.Givers.{AreGivers};
 
 use crate::facts::has;
 use h_add::Add;
@@ -78,8 +80,8 @@ fn add_first(
     requires op { op < length task.now.operators }
     requires place { (operator : TheOperator) → slice_get task.now.operators op ≡ Some operator →
         place < length operator.effects }
-    requires firsts { HasFirsts task.now node.now op place firsts.old.items }
-    ensures { OnOk result (HasFirsts task.now node.now op (place + 1) firsts.new.items) }
+    ensures { OnOk result ((done : List ℕ) → HasFirsts task.now node.now done op place
+        firsts.old.items → HasFirsts task.now node.now done op (place + 1) firsts.new.items) }
 {
     let operator = &task.parts().operators[op];
     let effect = &operator.effects[place];
@@ -98,8 +100,8 @@ fn add_firsts(
 ) -> Result<(), AllocError>
     requires knows { Knows task.now node.now add.now }
     requires op { op < length task.now.operators }
-    requires firsts { HasFirsts task.now node.now op 0 firsts.old.items }
-    ensures { OnOk result (HasFirsts task.now node.now (op + 1) 0 firsts.new.items) }
+    ensures { OnOk result ((done : List ℕ) → HasFirsts task.now node.now done op 0 firsts.old.items
+        → (next : ℕ) → HasFirsts task.now node.now (done ++ op ∷ []) next 0 firsts.new.items) }
 {
     let effects = task.parts().operators[op].effects.len();
     for place in 0..effects {
@@ -108,20 +110,22 @@ fn add_firsts(
     Ok(())
 }
 
-/// The conditions of the possible first achievers of a node, after the initial state was evaluated
-/// without its facts.
+/// The conditions of the possible first achievers of a node, of the operators that give one of its
+/// facts, after the initial state was evaluated without them.
 pub fn firsts_of(
     alloc: Global,
     task: &Task,
     add: &Add,
     node: &[Fact],
+    ops: &[u32],
 ) -> Result<Vec<Seq<Fact>>, NoMemory>
-    requires { Knows task.now node.now add.now }
+    requires knows { Knows task.now node.now add.now }
+    requires ops { AreGivers task.now node.now ops.now }
     ensures { IfOk result (λ firsts. AreFirsts task.now node.now firsts.items) }
 {
     let mut firsts = Vec::new(alloc);
-    for op in 0..task.parts().operators.len() {
-        add_firsts(task, add, node, op, &mut firsts)?;
+    for op in ops {
+        add_firsts(task, add, node, *op as usize, &mut firsts)?;
     }
     Ok(firsts)
 }

@@ -6,8 +6,10 @@ ghost use Rattle.sas_task.specs.declared.contents.CostKind.TheVariants.{One};
 ghost use Rattle.sas_task.specs.declared.contents.Fact.{Fact as TheFact};
 ghost use Rattle.relaxed_task.specs.Relaxations.{IsRelaxed};
 ghost use Rattle.lm_graph.specs.Nodes.{sets_of};
+ghost use Rattle.lm_backchain.specs.Givers.{FindsGivers};
 ghost use Rattle.lm_backchain.specs.Growth.{HasGoals, IsTakenBackAt, Works, number_in};
 
+use crate::givers::Givers;
 use crate::nodes::add_node;
 use crate::taking_back::taken_back;
 use h_add::Add;
@@ -16,21 +18,23 @@ use lm_graph::{Added, Graph, Order};
 use sas_task::{Fact, Task};
 use std::alloc::{AllocError, Global};
 
-fn add_goal(task: &Task, graph: &mut Graph, fact: Fact) -> Result<(), NoMemory>
+fn add_goal(task: &Task, givers: &Givers, graph: &mut Graph, fact: Fact) -> Result<(), NoMemory>
+    requires givers { FindsGivers task.now (length task.now.operators) givers.now.table }
     ensures { OnOk result ((goals : List TheFact) → HasGoals task.now goals graph.old →
         HasGoals task.now (goals ++ fact ∷ []) graph.new) }
 {
-    let _ = add_node(task, graph, &[fact])?;
+    let _ = add_node(task, givers, graph, &[fact])?;
     Ok(())
 }
 
 /// Adds the goal facts.
-pub fn add_goals(task: &Task, graph: &mut Graph) -> Result<(), NoMemory>
-    requires { HasGoals task.now [] graph.old }
+pub fn add_goals(task: &Task, givers: &Givers, graph: &mut Graph) -> Result<(), NoMemory>
+    requires givers { FindsGivers task.now (length task.now.operators) givers.now.table }
+    requires goals { HasGoals task.now [] graph.old }
     ensures { OnOk result (Works task.now graph.new 0 []) }
 {
     for fact in task.parts().goal.as_slice() {
-        add_goal(task, graph, *fact)?;
+        add_goal(task, givers, graph, *fact)?;
     }
     Ok(())
 }
@@ -48,11 +52,13 @@ fn number_of(added: Added) -> Option<u32>
 // Adds a node that another, at a place, is taken back to.
 fn add_before(
     task: &Task,
+    givers: &Givers,
     graph: &mut Graph,
     place: u32,
     list: &[Seq<Fact>],
     at: usize,
 ) -> Result<(), NoMemory>
+    requires givers { FindsGivers task.now (length task.now.operators) givers.now.table }
     requires place { place < length graph.old.nodes }
     requires back { IsTakenBackAt task.now graph.old place list.now }
     requires at { at < length list.now }
@@ -61,7 +67,7 @@ fn add_before(
     ensures place { OnOk result (place < length graph.new.nodes) }
     ensures back { OnOk result (IsTakenBackAt task.now graph.new place list.now) }
 {
-    let added = add_node(task, graph, &list[at])?;
+    let added = add_node(task, givers, graph, &list[at])?;
     match number_of(added) {
         Some(before) => {
             graph.order(before, place, Order::GreedyNecessary)?;
@@ -71,7 +77,14 @@ fn add_before(
     }
 }
 
-fn add_list(task: &Task, graph: &mut Graph, place: u32, list: &[Seq<Fact>]) -> Result<(), NoMemory>
+fn add_list(
+    task: &Task,
+    givers: &Givers,
+    graph: &mut Graph,
+    place: u32,
+    list: &[Seq<Fact>],
+) -> Result<(), NoMemory>
+    requires givers { FindsGivers task.now (length task.now.operators) givers.now.table }
     requires place { place < length graph.old.nodes }
     requires back { IsTakenBackAt task.now graph.old place list.now }
     requires works { Works task.now graph.old place [] }
@@ -79,7 +92,7 @@ fn add_list(task: &Task, graph: &mut Graph, place: u32, list: &[Seq<Fact>]) -> R
     ensures place { OnOk result (place < length graph.new.nodes) }
 {
     for at in 0..list.len() {
-        add_before(task, graph, place, list, at)?;
+        add_before(task, givers, graph, place, list, at)?;
     }
     Ok(())
 }
@@ -97,10 +110,12 @@ fn take_back(
     alloc: Global,
     task: &Task,
     start: &[u32],
+    givers: &Givers,
     add: &mut Add,
     graph: &mut Graph,
     place: u32,
 ) -> Result<(), NoMemory>
+    requires givers { FindsGivers task.now (length task.now.operators) givers.now.table }
     requires place { place < length graph.old.nodes }
     requires start { start.now ≡ start_of task.now }
     requires add { IsRelaxed task.now One add.old.relaxed }
@@ -110,8 +125,9 @@ fn take_back(
     ensures add { add.new.relaxed ≡ add.old.relaxed }
 {
     let node = facts_at(alloc, graph, place)?;
-    let list = taken_back(alloc, task, start, add, &node)?;
-    add_list(task, graph, place, &list)?;
+    let ops = givers.of(&node)?;
+    let list = taken_back(alloc, task, start, add, &node, &ops)?;
+    add_list(task, givers, graph, place, &list)?;
     Ok(())
 }
 
@@ -120,9 +136,11 @@ pub fn grow(
     alloc: Global,
     task: &Task,
     start: &[u32],
+    givers: &Givers,
     add: &mut Add,
     graph: &mut Graph,
 ) -> Result<(), NoMemory>
+    requires givers { FindsGivers task.now (length task.now.operators) givers.now.table }
     requires start { start.now ≡ start_of task.now }
     requires add { IsRelaxed task.now One add.old.relaxed }
     requires works { Works task.now graph.old 0 [] }
@@ -131,7 +149,7 @@ pub fn grow(
 {
     let mut place: u32 = 0;
     'places: while (place as usize) < graph.nodes().len() {
-        take_back(alloc, task, start, add, graph, place)?;
+        take_back(alloc, task, start, givers, add, graph, place)?;
         place += 1;
     }
     Ok(())

@@ -8,6 +8,7 @@
 mod backchaining;
 mod facts;
 mod firsts;
+mod givers;
 mod growing;
 mod natural;
 mod nodes;

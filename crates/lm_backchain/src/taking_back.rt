@@ -15,6 +15,7 @@ ghost use Rattle.lm_backchain.specs.Asked.{IsOf, IsFactOf, AllAsk, AreFacts, Col
 ghost use Rattle.lm_backchain.specs.Asked.{IsSetFor, all_have as have_all, PutsSet, AddsSet};
 ghost use Rattle.lm_backchain.specs.Asked.{HasSets};
 ghost use Rattle.lm_backchain.specs.Firsts.{AreFirsts};
+ghost use Rattle.lm_backchain.specs.Givers.{AreGivers};
 ghost use Rattle.lm_backchain.specs.Growth.{IsTakenBack};
 
 use crate::facts::{has, is_less, is_open, put_fact};
@@ -297,15 +298,18 @@ fn back_from(
     Ok(sets)
 }
 
-/// What a node is taken back to: single facts, ascending, and then sets. It is nothing where one of
-/// its facts is derived or holds in the initial state.
+/// What a node, with the operators that give one of its facts, is taken back to: single facts,
+/// ascending, and then sets. It is nothing where one of its facts is derived or holds in the
+/// initial state.
 pub fn taken_back(
     alloc: Global,
     task: &Task,
     start: &[u32],
     add: &mut Add,
     node: &[Fact],
+    ops: &[u32],
 ) -> Result<Vec<Seq<Fact>>, NoMemory>
+    requires ops { AreGivers task.now node.now ops.now }
     requires node { IsTrue (list_all (is_fact task.now.variables) node.now) }
     requires start { start.now ≡ start_of task.now }
     requires add { IsRelaxed task.now One add.old.relaxed }
@@ -316,7 +320,7 @@ pub fn taken_back(
         return Ok(Vec::new(alloc));
     }
     add.evaluate_without(start, node);
-    let firsts = firsts_of(alloc, task, add, node)?;
+    let firsts = firsts_of(alloc, task, add, node, ops)?;
     let sets = back_from(alloc, task, start, &firsts)?;
     Ok(sets)
 }

@@ -1,5 +1,5 @@
 // Making the tables of a status.
-ghost use Rattle.std.specs.Prelude.{◌≡◌, map, filter, IfOk, Some};
+ghost use Rattle.std.specs.Prelude.{◌≡◌, length, map, filter, IfOk, Some};
 ghost use Rattle.lm_graph.specs.Orders.{is_strong};
 ghost use Rattle.lm_graph.specs.Nodes.{sets_of};
 ghost use Rattle.lm_status.specs.Accepted.{nodes_in};
@@ -103,4 +103,14 @@ pub(crate) fn make_weights(
         .iter()
         .map(|node| weight(task, kind, node))
         .collect(alloc)
+}
+
+/// Writes the weight of each node over another.
+pub(crate) fn put_weights(task: &Task, kind: CostKind, nodes: &[Node], weights: &mut [u64])
+    requires { length weights.old ≡ length nodes.now }
+    ensures { weights.new ≡ map (weight_of task.now kind) nodes.now }
+{
+    for node in 0..weights.len() {
+        weights[node] = weight(task, kind, &nodes[node]);
+    }
 }

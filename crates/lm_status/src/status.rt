@@ -13,7 +13,7 @@ ghost use Rattle.lm_status.specs.Preferred.{leads_on as op_leads_on, landmark_pr
 ghost use Rattle.lm_status.specs.Rows.{has as has_bit, words_of, StandsFor};
 ghost use Rattle.lm_status.specs.Statuses.{IsStatusOf};
 
-use crate::making::{make_after, make_before, make_facts, make_goals, make_weights};
+use crate::making::{make_after, make_before, make_facts, make_goals, make_weights, put_weights};
 use crate::rows::{clear, has, put};
 use crate::table::make_table;
 use lama_num::{LARGEST_ESTIMATE, NoMemory, Rows};
@@ -127,6 +127,13 @@ impl Status {
             weights,
             table,
         })
+    }
+
+    /// Makes its weights those of a kind of cost. The graph stays, and what rows stand for too.
+    pub fn reweigh(&mut self, task: &Task, kind: CostKind)
+        ensures { IsStatusOf task.now self.old.graph kind self.new }
+    {
+        put_weights(task, kind, self.graph.nodes(), &mut self.weights);
     }
 
     /// How many nodes there are.

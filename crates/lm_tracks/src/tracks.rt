@@ -4,13 +4,14 @@ ghost use Rattle.std.specs.Prelude.{None, Some};
 ghost use Rattle.lm_status.specs.Estimates.{landmark_estimate};
 ghost use Rattle.lm_status.specs.Preferred.{leads_on as op_leads_on};
 ghost use Rattle.lm_status.specs.Rows.{StandsFor, has, words_of};
+ghost use Rattle.lm_status.specs.Statuses.{IsStatusOf};
 ghost use Rattle.lm_tracks.specs.Rows.{row_in, IsThere};
 ghost use Rattle.lm_tracks.specs.Tracks.{Keeps};
 
 use crate::rows::{row_of, store};
 use lama_num::NoMemory;
 use lm_status::Status;
-use sas_task::Task;
+use sas_task::{CostKind, Task};
 use std::alloc::Global;
 use std::marker::Model;
 
@@ -77,11 +78,13 @@ impl Tracks {
         })
     }
 
-    /// Forgets what is kept, so that another search can begin. The memory stays for it.
-    pub fn clear(&mut self)
-        ensures status { self.new.status ≡ self.old.status }
+    /// Forgets what is kept, so that another search can begin, whose estimates are by a kind of
+    /// cost. The graph stays, and the memory too.
+    pub fn turn_to(&mut self, task: &Task, kind: CostKind)
+        ensures status { IsStatusOf task.now self.old.status.graph kind self.new.status }
         ensures rows { self.new.rows ≡ [] }
     {
+        self.status.reweigh(task, kind);
         self.rows.clear();
     }
 

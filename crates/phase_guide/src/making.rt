@@ -1,5 +1,5 @@
 // Making the guide of a phase.
-ghost use Rattle.std.specs.Prelude.{◌≡◌, true, IsTrue, IfOk, OnOk};
+ghost use Rattle.std.specs.Prelude.{◌≡◌, [], true, IsTrue, IfOk, OnOk};
 ghost use Rattle.conf_text.specs.Accepted.{IsPhase};
 ghost use Rattle.conf_text.specs.Grammar.{has_guide};
 ghost use Rattle.conf_text.specs.declared.config.GuideKind.{GuideKind as TheGuide};
@@ -33,7 +33,8 @@ fn landmark_graph(alloc: Global, task: &Task) -> Result<Graph, NoMemory>
 
 /// The rows of a phase's landmarks: of none where the phase doesn't go by them.
 fn tracks_for(alloc: Global, task: &Task, phase: &Phase) -> Result<Tracks, NoMemory>
-    ensures { IfOk result (λ tracks. AreLandmarksFor task.now phase.now tracks.status) }
+    ensures landmarks { IfOk result (λ tracks. AreLandmarksFor task.now phase.now tracks.status) }
+    ensures rows { IfOk result (λ tracks. tracks.rows ≡ []) }
 {
     let graph = if has(&phase.guides, GuideKind::Lm) {
         landmark_graph(alloc, task)?
@@ -57,14 +58,12 @@ fn new_relaxing(alloc: Global, task: &Task, phase: &Phase) -> Result<Relaxing, N
     }
 }
 
-/// Whether the rows of the phase before serve a phase.
+/// Whether the landmarks of the phase before serve a phase.
 fn are_enough(phase: &Phase, had: &Phase) -> bool
-    ensures kind { IsTrue result → had.now.estimate ≡ phase.now.estimate }
-    ensures landmarks { IsTrue result → has_guide phase.now.guides TheGuide.Lm ≡ true →
+    ensures { IsTrue result → has_guide phase.now.guides TheGuide.Lm ≡ true →
         has_guide had.now.guides TheGuide.Lm ≡ true }
 {
-    is_same_cost(had.estimate, phase.estimate)
-        && (!has(&phase.guides, GuideKind::Lm) || has(&had.guides, GuideKind::Lm))
+    !has(&phase.guides, GuideKind::Lm) || has(&had.guides, GuideKind::Lm)
 }
 
 /// Makes the rows of the phase before those of a phase.
@@ -76,10 +75,11 @@ fn renew_tracks(
     tracks: &mut Tracks,
 ) -> Result<(), NoMemory>
     requires { AreLandmarksFor task.now had.now tracks.old.status }
-    ensures { OnOk result (AreLandmarksFor task.now phase.now tracks.new.status) }
+    ensures landmarks { OnOk result (AreLandmarksFor task.now phase.now tracks.new.status) }
+    ensures rows { OnOk result (tracks.new.rows ≡ []) }
 {
     if are_enough(phase, had) {
-        tracks.clear();
+        tracks.turn_to(task, phase.estimate);
     } else {
         *tracks = tracks_for(alloc, task, phase)?;
     }
@@ -113,6 +113,7 @@ pub fn guide(alloc: Global, task: &Task, phase: &Phase) -> Result<PhaseGuide, No
     requires { IsPhase phase.now }
     ensures phase { IfOk result (λ guide. guide.phase ≡ phase.now) }
     ensures task { IfOk result (λ guide. IsFor guide task.now) }
+    ensures rows { IfOk result (λ guide. guide.tracks.rows ≡ []) }
 {
     let phase_of_guide = copy(alloc, phase)?;
     let tracks = tracks_for(alloc, task, phase)?;
@@ -125,8 +126,8 @@ pub fn guide(alloc: Global, task: &Task, phase: &Phase) -> Result<PhaseGuide, No
 }
 
 impl PhaseGuide {
-    /// Makes it the guide of another phase of its task. What it goes by stays, where estimates are
-    /// by the same kind of cost; nothing else is kept.
+    /// Makes it the guide of another phase of its task. The graph of landmarks stays, and where
+    /// estimates are by the same kind of cost the tables of the relaxation; nothing else is kept.
     ///
     /// After want of memory nothing is said of the guide.
     pub fn turn_to(&mut self, alloc: Global, task: &Task, phase: &Phase) -> Result<(), NoMemory>
@@ -134,6 +135,7 @@ impl PhaseGuide {
         requires task { IsFor self.old task.now }
         ensures phase { OnOk result (self.new.phase ≡ phase.now) }
         ensures task { OnOk result (IsFor self.new task.now) }
+        ensures rows { OnOk result (self.new.tracks.rows ≡ []) }
     {
         let phase_of_guide = copy(alloc, phase)?;
         renew_relaxing(alloc, task, phase, &self.phase, &mut self.relaxing)?;

@@ -1,7 +1,7 @@
 // Why bytes are no plan file.
 ghost use Rattle.std.specs.Prelude.{◌≡◌};
 ghost use Rattle.plan_text.specs.declared.faults.PlanTextError.TheVariants.{Bad as TheBad};
-ghost use Rattle.plan_text.specs.declared.faults.PlanTextError.TheVariants.{NoMemory as OutOfMemory};
+ghost use Rattle.plan_text.specs.declared.faults.PlanTextError.TheVariants.{NoMemory as NoRoom};
 
 use std::alloc::{AllocError, AllocFailed};
 use thiserror::Error;
@@ -37,7 +37,7 @@ impl From<PlanTextFault> for PlanTextError {
 }
 
 impl From<AllocError> for PlanTextError {
-    ghost from_gives = { λ _ e. e ≡ OutOfMemory };
+    ghost from_gives = { λ _ e. e ≡ NoRoom };
 
     fn from(_: AllocError) -> PlanTextError {
         PlanTextError::NoMemory
@@ -45,7 +45,7 @@ impl From<AllocError> for PlanTextError {
 }
 
 impl<T: Drop> From<AllocFailed<T>> for PlanTextError {
-    ghost from_gives = { λ _ e. e ≡ OutOfMemory };
+    ghost from_gives = { λ _ e. e ≡ NoRoom };
 
     fn from(_: AllocFailed<T>) -> PlanTextError {
         PlanTextError::NoMemory

@@ -1,7 +1,8 @@
-// Tasks of one variable of four values.
+// A task of one variable of four values.
 use lama_num::Seq;
-use sas_task::{Fact, Operator, Parts};
+use sas_task::{Fact, Operator, Parts, Task, check};
 use std::alloc::{AllocError, Global};
+use std::test::Fail;
 use test_tasks::{fact, facts, giving, variable};
 
 fn add_operator(
@@ -24,9 +25,7 @@ fn operators(alloc: Global, free: u32, on: u32) -> Result<Seq<Operator>, AllocEr
     Ok(operators)
 }
 
-/// The variable moves between its first two values at a cost, and on to the third at another, in
-/// two ways. Nothing gives the last.
-pub fn moves(alloc: Global, free: u32, on: u32, goal: u32) -> Result<Parts, AllocError> {
+fn parts(alloc: Global, free: u32, on: u32, goal: u32) -> Result<Parts, AllocError> {
     let mut variables = Seq::new(alloc);
     variables.push(variable(alloc, None, 4)?)?;
     let mut init = Seq::new(alloc);
@@ -41,4 +40,18 @@ pub fn moves(alloc: Global, free: u32, on: u32, goal: u32) -> Result<Parts, Allo
         operators: operators(alloc, free, on)?,
         rules: Seq::new(alloc),
     })
+}
+
+/// The task of parts. Nothing of what the check promises is passed on.
+fn task_of(parts: Parts) -> Result<Task, Fail> {
+    match check(parts) {
+        Ok(task) => Ok(task),
+        Err(_) => Err(Fail::from("refused")),
+    }
+}
+
+/// The variable moves between its first two values at a cost, and on to the third at another, in
+/// two ways. Nothing gives the last.
+pub fn moves(alloc: Global, free: u32, on: u32, goal: u32) -> Result<Task, Fail> {
+    task_of(parts(alloc, free, on, goal)?)
 }

@@ -1,4 +1,4 @@
-//! Small tasks by their parts, for tests of the relaxation.
+//! Small tasks for tests of the relaxation.
 #![tactic(auto)]
 
 mod four_values;

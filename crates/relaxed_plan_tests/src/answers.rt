@@ -1,11 +1,10 @@
 // What FF answers, as plain numbers, by functions that promise nothing, so that the proof of a test
-// has nothing to carry.
+// has nothing to carry. Each big value is given up in a function of its own, at one place.
 use h_ff::Ff;
-use lama_num::Estimate;
+use lama_num::{Estimate, NoMemory};
 use sas_task::{CostKind, Task};
-use std::alloc::AllocError;
+use std::alloc::{AllocError, Global};
 use std::process::Abort;
-use std::test::Fail;
 
 /// In place of an infinite estimate.
 pub const NEVER: u32 = 4_294_967_295;
@@ -32,20 +31,36 @@ fn evaluated(rt: &impl Abort, ff: &mut Ff, task: &Task, state: &[u32]) -> u32 {
     plain(ff.evaluate(task, state))
 }
 
+fn push_told(answers: &mut Vec<u32>, ff: &Ff, estimate: u32) -> Result<(), AllocError> {
+    answers.push(plain(ff.additive().goal_value()))?;
+    answers.push(estimate)?;
+    push_all(answers, ff.relaxed_plan())?;
+    answers.push(AND)?;
+    push_all(answers, ff.preferred())
+}
+
+fn told(alloc: Global, ff: &Ff, estimate: u32) -> Result<Vec<u32>, NoMemory> {
+    let mut answers = Vec::new(alloc);
+    push_told(&mut answers, ff, estimate)?;
+    Ok(answers)
+}
+
+fn answers_of(
+    rt: &(impl Abort + AllocGlobal),
+    task: &Task,
+    state: &[u32],
+) -> Result<Vec<u32>, NoMemory> {
+    let mut ff = Ff::new(rt.alloc(), task, CostKind::Normal)?;
+    let estimate = evaluated(rt, &mut ff, task, state);
+    told(rt.alloc(), &ff, estimate)
+}
+
 /// The additive estimate of a state, that of FF, the operators of its relaxed plan, and those that
 /// are preferred.
 pub fn answers(
     rt: &(impl Abort + AllocGlobal),
-    task: &Task,
+    task: Task,
     state: &[u32],
-) -> Result<Vec<u32>, Fail> {
-    let mut ff = Ff::new(rt.alloc(), task, CostKind::Normal)?;
-    let mut answers = Vec::new(rt.alloc());
-    let estimate = evaluated(rt, &mut ff, task, state);
-    answers.push(plain(ff.additive().goal_value()))?;
-    answers.push(estimate)?;
-    push_all(&mut answers, ff.relaxed_plan())?;
-    answers.push(AND)?;
-    push_all(&mut answers, ff.preferred())?;
-    Ok(answers)
+) -> Result<Vec<u32>, NoMemory> {
+    answers_of(rt, &task, state)
 }

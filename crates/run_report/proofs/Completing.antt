@@ -109,7 +109,7 @@ refuted entry at (Limit hit log) none unfound first fits memory ends =
 refuted entry at NoMemory none unfound first fits memory ends = absurd (false_true memory)
 
 -- the one turn
-taken : (n x : ℕ) → x ∷ [] ≡ take n (1 ∷ []) → x ≡ 1
+pub taken : (n x : ℕ) → x ∷ [] ≡ take n (1 ∷ []) → x ≡ 1
 taken zero x is = let k : x ∷ [] ≡ [] = is in cc
 taken (suc zero) x is = let k : x ∷ [] ≡ 1 ∷ [] = is in cc
 taken (suc (suc n)) x is = let k : x ∷ [] ≡ 1 ∷ [] = is in cc

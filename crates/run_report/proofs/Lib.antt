@@ -1,5 +1,6 @@
 mod Codes
 mod Completing
+mod Finishing
 mod Going
 mod Lists
 mod Phasing

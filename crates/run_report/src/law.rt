@@ -1,5 +1,6 @@
 // What a loop over turns needs: how a run goes on, turn by turn and phase by phase, and its end.
-ghost use Rattle.std.specs.Prelude.{◌≡◌, ◌+◌, ◌<◌, ℕ, List, [], ◌∷◌, ◌++◌, length, map, Option, Some, None};
+ghost use Rattle.std.specs.Prelude.{◌≡◌, ◌+◌, ◌<◌, ℕ, List, [], ◌∷◌, ◌++◌, length, map};
+ghost use Rattle.std.specs.Prelude.{Option, Some, None};
 ghost use Rattle.std.specs.Prelude.{true, false, nat_eq, if◌then◌else◌};
 ghost use Rattle.std.specs.List.{last_or};
 ghost use Rattle.sas_task.specs.declared.contents.Parts.{Parts};
@@ -37,8 +38,10 @@ pub fn a_turn_begins()
         (candidates : List Candidate) (ends : List TheEnd) (began : ℕ) →
         IsUnderWay run core (between ended) kept candidates ends →
         length ended < length run.setting.shares → next.setting ≡ core.setting →
-        StandsFor next (events_of (between ended) ++ begins_at (turn_of 1 (1 + length ended)) began ∷ []) →
-        IsUnderWay run next (during ended (begun_at (turn_of 1 (1 + length ended)) began)) kept candidates ends }
+        StandsFor next
+        (events_of (between ended) ++ begins_at (turn_of 1 (1 + length ended)) began ∷ []) →
+        IsUnderWay run next
+        (during ended (begun_at (turn_of 1 (1 + length ended)) began)) kept candidates ends }
 {}
 
 /// The turn that is on offers a plan below the bound, which the core and the lists have.
@@ -54,7 +57,8 @@ pub fn a_turn_offers()
         is_below (bound_of run.setting (events_of (during ended begun))) plan.cost ≡ true →
         IsUnderWay run next
         (during ended (offered_more begun (good_offer file plan.ops plan.cost))) (kept ++ plan ∷ [])
-        (candidates ++ candidate_of begun.turn (length kept) (good_offer file plan.ops plan.cost) ∷ []) ends }
+        (candidates
+        ++ candidate_of begun.turn (length kept) (good_offer file plan.ops plan.cost) ∷ []) ends }
 {}
 
 /// The turn that is on ends as its search did, and the core has its end.
@@ -66,6 +70,15 @@ pub fn a_turn_ends()
         StandsFor next (events_of (during ended (begun_of turn)) ++ end_of turn.end ∷ []) →
         EndsAs run (turns_events ended) turn →
         IsUnderWay run next (between (ended ++ turn ∷ [])) kept candidates (ends ++ turn.end ∷ []) }
+{}
+
+/// A run of one entry and no rounds is over once its turn has ended.
+pub fn the_only_turn_ends_the_run()
+    ensures { (run : Run) (core : CoreState) (turn : ToldTurn) (kept : List Kept)
+        (candidates : List Candidate) (ends : List TheEnd) →
+        IsUnderWay run core (between (turn ∷ [])) kept candidates ends →
+        length run.setting.shares ≡ 1 → run.setting.rounds ≡ false →
+        is_over_after run.setting (events_of (between (turn ∷ []))) ≡ true }
 {}
 
 /// A plan that costs less than the last kept one, or than the bound where none is, can be kept too.
@@ -108,7 +121,8 @@ pub fn a_run_is_told()
         TellsRun run report turns }
 {}
 
-/// Where a run has one entry and no bound, and goes on after its first plan, its report is complete.
+/// Where a run has one entry and no bound, and goes on after its first plan, its report is
+/// complete.
 pub fn a_run_with_room_is_complete()
     ensures { (run : Run) (report : TheReport) (turns : Turns) →
         length run.setting.shares ≡ 1 → run.setting.bound ≡ None → run.setting.single ≡ false →

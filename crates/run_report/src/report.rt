@@ -31,7 +31,8 @@ pub struct Report {
 
 /// The end of an entry's turn, by the number of the round and that of the entry, each from 1: the
 /// clock's answer, in milliseconds, as it began; how many phases were begun, and how many pops
-/// their logs have; what the phases came to that another followed or could follow; and how it ended.
+/// their logs have; what the phases came to that another followed or could follow; and how it
+/// ended.
 #[derive(Debug, Drop)]
 pub struct EntryEnd {
     pub round: u32,

@@ -273,3 +273,5 @@ delivery_accepted n count = admitted (delivery n) (delivery_admissible n count.h
 pub delivery_brought : (n : ℕ) → brought (delivery n) ≡ delivery n
 unfolding delivery
 delivery_brought n = let ordered : map in_order (moves n ++ loads n) ≡ moves n ++ loads n = map-append in_order (moves n) (loads n) ∙ ap (λ xs. xs ++ map in_order (loads n)) (in_order_moves n) ∙ ap (λ xs. moves n ++ xs) (in_order_loads n) in rw ordered refl
+
+pub ruleset delivered = (delivery_accepted, delivery_brought)

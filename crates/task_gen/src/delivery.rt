@@ -293,7 +293,7 @@ fn parts(alloc: Global, n: u32) -> Result<Parts, AllocError>
 ///
 /// A truck goes from place to place, loads packages and unloads them; it starts at place 0. Every
 /// operator costs 1, and each of these tasks has a plan.
-#[tactic(auto, using(crate::proofs::Delivered::delivery_accepted, crate::proofs::Delivered::delivery_brought))]
+#[tactic(auto, using(crate::proofs::Delivered::delivered))]
 pub fn generate(alloc: Global, n: u32) -> Result<Task, NoMemory>
     requires { IsPackageCount n }
     ensures task { IfOk result (λ task. task ≡ delivery n) }

@@ -55,7 +55,7 @@ fn push_names(text: &mut Vec<u8>, names: &[Seq<u8>]) -> Result<(), AllocError>
     Ok(())
 }
 
-#[tactic(auto, using(crate::proofs::Grown::growing), unfolding(crate::specs::Printed::variable_lines))]
+#[tactic(auto, using(crate::proofs::Grown::growing))]
 fn push_variable(text: &mut Vec<u8>, variable: &Variable) -> Result<(), AllocError>
     ensures { OnOk result (text.new.items
         ≡ text.old.items ++ text_of (variable_lines variable.now)) }

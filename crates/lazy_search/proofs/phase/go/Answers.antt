@@ -34,6 +34,7 @@ returns-in-AtGoal g c =
     let F = g.G.Guide.fits c.begin.new.guide c.args.task.now in
     let e = c.in_ok-begin.ensures in
     record {
+      same_task = e.same_task;
       meaning = e.meaning;
       halts = halts_goal phase K F c.begin.new.self (after_is phase K F c.begin.new.self c.in_ok-begin.field-0 AtGoal c.in-AtGoal.is e.after);
       answers = λ before a. subst (λ (ps : List Pop). IsAnswered phase ps None before (g.C.Clock.answers c.args.clock.now)) (sym e.pops) a;
@@ -44,6 +45,7 @@ returns-in-AtGoal g c =
 
 pub returns-in-Done : goal.returns-in-Done
 returns-in-Done g c = record {
+  same_task = c.run.ensures.same_task;
   meaning = λ parts states seen. on_ok c.run.result (λ x. same_both x (c.in_ok-begin.ensures.meaning parts states seen)) (c.run.ensures.meaning parts states seen);
   halts = c.run.ensures.halts;
   answers = c.run.ensures.answers;

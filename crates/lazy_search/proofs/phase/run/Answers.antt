@@ -49,6 +49,7 @@ returns-in-Empty g c =
     let new = c.turn.new.self.log.pops in
     let pops = pops_are old new c.in_ok-turn.field-0 Empty c.in-Empty.is c.in_ok-turn.ensures.pops in
     record {
+      same_task = c.in_ok-turn.ensures.same_task;
       meaning = λ parts states seen. same_both (c.in_ok-turn.ensures.meaning parts states seen) (i.meaning parts states seen);
       halts = halts_empty phase K F c.turn.new.self (after_is phase K F c.turn.new.self c.in_ok-turn.field-0 Empty c.in-Empty.is c.in_ok-turn.ensures.after);
       answers = λ before a. subst (λ (ps : List Pop). IsAnswered phase ps None before (g.C.Clock.answers c.loop-turn.clock)) (sym pops) (i.answers before a);
@@ -67,6 +68,7 @@ returns-in-AtGoal g c =
     let new = c.turn.new.self.log.pops in
     let pops = pops_are old new c.in_ok-turn.field-0 AtGoal c.in-AtGoal.is c.in_ok-turn.ensures.pops in
     record {
+      same_task = c.in_ok-turn.ensures.same_task;
       meaning = λ parts states seen. same_both (c.in_ok-turn.ensures.meaning parts states seen) (i.meaning parts states seen);
       halts = halts_goal phase K F c.turn.new.self (after_is phase K F c.turn.new.self c.in_ok-turn.field-0 AtGoal c.in-AtGoal.is c.in_ok-turn.ensures.after);
       answers = λ before a. answered_final phase old new before (g.C.Clock.answers c.loop-turn.clock) (i.answers before a) pops;
@@ -85,6 +87,7 @@ returns-in-AtFull g c =
     let new = c.turn.new.self.log.pops in
     let pops = pops_are old new c.in_ok-turn.field-0 AtFull c.in-AtFull.is c.in_ok-turn.ensures.pops in
     record {
+      same_task = c.in_ok-turn.ensures.same_task;
       meaning = λ parts states seen. same_both (c.in_ok-turn.ensures.meaning parts states seen) (i.meaning parts states seen);
       halts = halts_full phase K F c.turn.new.self (after_is phase K F c.turn.new.self c.in_ok-turn.field-0 AtFull c.in-AtFull.is c.in_ok-turn.ensures.after);
       answers = λ before a. answered_final phase old new before (g.C.Clock.answers c.loop-turn.clock) (i.answers before a) pops;
@@ -109,6 +112,7 @@ returns-in-Some g c =
     let count : length new ≡ n = omega (arith, length_one old new false one, i.count) in
     let over = over_after phase.setting.stop n mid end c.in-Some.hit e.between e.asks in
     record {
+      same_task = c.in_ok-turn.ensures.same_task;
       meaning = λ parts states seen. same_both (c.in_ok-turn.ensures.meaning parts states seen) (i.meaning parts states seen);
       halts = halts_time phase K F c.turn.new.self c.in-Some.hit (after_is phase K F c.turn.new.self c.in_ok-turn.field-0 Done c.in-Done.is c.in_ok-turn.ensures.after) over.1 (omega (arith, count)) (ap (λ (k : ℕ). k % 256) count ∙ over.0);
       answers = λ before a. asked_after phase old new n before mid end (Some c.in-Some.hit) (i.answers before a) one i.unfinal_all count e.between e.unasked e.asks;
@@ -150,6 +154,7 @@ returns-then-is_empty g c =
     let i = c.loop-turn.invariant in
     let s = i.stands in
     record {
+      same_task = i.same_task;
       meaning = i.meaning;
       halts = halts_done phase (g.G.Guide.keeps c.loop-turn.guide) (g.G.Guide.fits c.loop-turn.guide c.args.task.now) m s (exhausted_now phase m s.past c.requires.phase s.rests s.ends (lists_empty phase m s.past s.rests (c.is_empty.ensures.0 c.if-is_empty.true)));
       answers = i.answers;
@@ -165,6 +170,7 @@ returns g c =
     let i = c.loop-turn.invariant in
     let s = i.stands in
     record {
+      same_task = i.same_task;
       meaning = i.meaning;
       halts = halts_pops phase (g.G.Guide.keeps c.loop-turn.guide) (g.G.Guide.fits c.loop-turn.guide c.args.task.now) m s (ends_at_pops phase m s.past s.rests s.ends (λ none. both_ways c.is_empty.result c.if-is_empty.false (c.is_empty.ensures.1 none)) (omega (arith, i.count, c.loop-turn-test.false, c.loop-turn.auto.turn-end)));
       answers = i.answers;

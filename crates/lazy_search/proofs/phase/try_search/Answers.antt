@@ -7,7 +7,7 @@ use Rattle.lazy_search.specs.Machines.{phase_of}
 use Rattle.lazy_search.specs.Halts.{moment_at}
 use Rattle.lazy_search.specs.Ends.{EndsSo, EndHolds, ClockHolds, IsAnswered, IsBetween, moment_by}
 use Rattle.lazy_search.proofs.Clocking.{tells_then, asks_first, between_from}
-use Rattle.lazy_search.proofs.Halting.{asks_over, if_both}
+use Rattle.lazy_search.proofs.Halting.{asks_over, if_all, if_both}
 use Rattle.lazy_search.proofs.Answering.{halt_ends, tells, end_holds, clock_holds, first_limit, phase_same, is_phase}
 use Rattle.lazy_search.proofs.phase.try_search.Goals as goal
 
@@ -23,6 +23,7 @@ returns-in-Some g c =
     let e = c.in-Some.ensures in
     let log = c.new.result in
     record {
+      same_task = c.requires.same_task;
       end = subst (λ (p : Phase). EndHolds p F (Limit hit log)) same (first_limit phase F log hit c.new.ensures.visits c.new.ensures.pops (asks_over phase.setting.stop before after hit e.asks));
       clock = subst (λ (p : Phase). IsAnswered p log.pops (moment_of hit) before after) same (subst (λ (ps : List Pop). IsAnswered phase ps (moment_of hit) before after) (sym c.new.ensures.pops) (asks_first phase before after (Some hit) e.asks));
       moment = e.moment;
@@ -88,6 +89,7 @@ returns g c =
     let so = c.end_of.ensures.ends in
     let moment = c.end_of.ensures.moment in
     record {
+      same_task = if_all r (g.G.Guide.is_for c.go.new.guide c.args.task.now) e.same_task;
       end = subst (λ (p : Phase). IfOk r (EndHolds p own)) same (if_both r (EndsSo phase log) (EndsSo phase log) (EndHolds phase own) (λ end s _. end_holds phase own log end told s) so so);
       clock = subst (λ (p : Phase). IfOk r (ClockHolds p before after)) same (if_both r (EndsSo phase log) (λ end. moment_by end ≡ moment_at halt) (ClockHolds phase before after) (λ end s is. clock_holds phase log end (moment_at halt) before after s is asked) so moment);
       moment = if_both r (EndsSo phase log) (λ end. moment_by end ≡ moment_at halt) (λ end. IsBetween (g.C.Clock.last c.args.clock.now) (g.C.Clock.last c.go.new.clock) (moment_by end)) (λ end _ is. subst (IsBetween (g.C.Clock.last c.args.clock.now) (g.C.Clock.last c.go.new.clock)) (sym is) between) so moment;

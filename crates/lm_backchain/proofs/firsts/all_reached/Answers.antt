@@ -1,9 +1,7 @@
-use Rattle.std.proofs.Common.{◌≡◌, ◌≤◌, ◌∙◌, sym, subst, List, length, true, false, IsTrue, refl, arith, [], take}
+use Rattle.std.proofs.Common.{◌≡◌, ◌≤◌, subst, length, true, false, refl, arith}
 use Rattle.std.proofs.lemmas.Bool.{both_ways}
-use Rattle.std.specs.List.{list_all}
 use Rattle.lama_num.specs.Lists.{list_all_get}
 use Rattle.sas_task.specs.WellFormed.{is_fact}
-use Rattle.lm_backchain.specs.Backchain.{has}
 use Rattle.lm_backchain.specs.Firsts.{AreReached}
 use Rattle.lm_backchain.proofs.FactLists.{has_at}
 use Rattle.lm_backchain.proofs.Finding.{reached_more}

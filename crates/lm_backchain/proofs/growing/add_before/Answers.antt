@@ -1,10 +1,10 @@
-use Rattle.std.proofs.Common.{◌≡◌, ◌∙◌, sym, refl, arith, Some, slice_get}
-use Rattle.lm_backchain.proofs.Coming.{greedy_set, this_gives, this_extends, this_place, this_at, this_other, this_ordered, this_full, set_within, stays_at, still_back}
+use Rattle.std.proofs.Common.{◌∙◌, sym}
+use Rattle.lm_backchain.proofs.Coming.{greedy_set, this_gives, this_place, this_at, this_other, this_ordered, this_full, set_within, stays_at, still_back}
 use Rattle.lm_backchain.proofs.Listing.{item}
 use Rattle.lm_backchain.proofs.growing.add_before.Goals as goal
 
-pub add_node-requires : goal.add_node-requires
-add_node-requires c =
+pub add_node-requires-clause-set : goal.add_node-requires-clause-set
+add_node-requires-clause-set c =
     let at = item c.args.list.now c.args.at c.index-list-at.result _ c.requires.at c.index-list-at.is c.deref.ensures in
     greedy_set c.args.task.now _ _ (this_gives c.args.task.now c.args.graph.now c.args.place c.args.list.now c.args.at _ c.requires.place c.requires.back at)
 

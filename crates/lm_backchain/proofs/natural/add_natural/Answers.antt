@@ -1,4 +1,4 @@
-use Rattle.std.proofs.Common.{◌≡◌, ◌≤◌, ◌∙◌, sym, ap, subst, ℕ, length, arith}
+use Rattle.std.proofs.Common.{◌≡◌, ◌∙◌, sym, ap, subst, ℕ, length, arith}
 use Rattle.sas_task.specs.declared.contents.CostKind.TheVariants.{One}
 use Rattle.relaxed_task.specs.Relaxations.{IsRelaxed}
 use Rattle.lm_backchain.specs.Strengths.{IsUpTo}

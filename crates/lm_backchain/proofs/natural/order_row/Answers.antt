@@ -1,4 +1,4 @@
-use Rattle.std.proofs.Common.{◌≡◌, ◌≤◌, ◌∙◌, ap, length, arith}
+use Rattle.std.proofs.Common.{◌≤◌, ◌∙◌, ap, length, arith}
 use Rattle.lm_backchain.proofs.Strong.{row_next, facts_stay, knows_stay}
 use Rattle.lm_backchain.proofs.natural.order_row.Goals as goal
 

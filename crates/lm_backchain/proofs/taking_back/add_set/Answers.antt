@@ -1,4 +1,3 @@
-use Rattle.std.proofs.Common.{sym}
 use Rattle.std.proofs.lemmas.Bool.{both_ways}
 use Rattle.lm_backchain.proofs.Asking.{adds_set, adds_none, collected_facts}
 use Rattle.lm_backchain.proofs.taking_back.add_set.Goals as goal

@@ -1,4 +1,4 @@
-use Rattle.std.proofs.Common.{◌≡◌, ◌∙◌, sym, ap, Some, None, Option, List, ℕ}
+use Rattle.std.proofs.Common.{◌≡◌, ◌∙◌, sym, ap, Some, None}
 use Rattle.std.specs.Prelude.{option_map}
 use Rattle.sas_task.specs.Facts.{predicate_of}
 use Rattle.lm_backchain.proofs.Asking.{sets_more, sets_same}

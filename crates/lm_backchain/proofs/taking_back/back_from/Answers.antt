@@ -1,4 +1,4 @@
-use Rattle.std.proofs.Common.{◌≡◌, ◌<◌, ◌∙◌, ◌++◌, ap, sym, subst, length, refl, arith, List, []}
+use Rattle.std.proofs.Common.{◌<◌, ◌∙◌, ◌++◌, ap, sym, subst, length, refl, List}
 use Rattle.sas_task.specs.declared.contents.Fact.{Fact}
 use Rattle.lm_backchain.specs.Growth.{IsTakenBack}
 use Rattle.lm_backchain.proofs.Asking.{taken_back_none, taken_back_from, nothing_there, something_there}

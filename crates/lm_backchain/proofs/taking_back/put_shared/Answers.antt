@@ -1,4 +1,4 @@
-use Rattle.std.proofs.Common.{◌≡◌, ◌∙◌, sym, refl, false, ◌&&◌, ◌||◌, Bool}
+use Rattle.std.proofs.Common.{◌∙◌, sym}
 use Rattle.sas_task.specs.Facts.{same_fact}
 use Rattle.lm_backchain.specs.Asked.{all_have}
 use Rattle.lm_backchain.specs.Backchain.{has}

@@ -1,4 +1,4 @@
-use Rattle.std.proofs.Common.{◌≡◌, ◌≤◌, ◌∙◌, ◌&&◌, ap, length, refl, arith, List}
+use Rattle.std.proofs.Common.{◌≤◌, ◌∙◌, ◌&&◌, ap, length, refl, arith, List}
 use Rattle.sas_task.specs.declared.contents.Fact.{Fact}
 use Rattle.lm_backchain.specs.Asked.{all_have}
 use Rattle.lm_backchain.specs.Backchain.{has}

@@ -1,6 +1,4 @@
-use Rattle.std.proofs.Common.{◌≡◌, ◌∙◌, sym, ap, true, refl}
-use Rattle.std.specs.List.{list_all}
-use Rattle.sas_task.specs.WellFormed.{is_fact}
+use Rattle.std.proofs.Common.{◌∙◌, sym}
 use Rattle.lm_backchain.proofs.Asking.{taken_back_closed}
 use Rattle.lm_backchain.proofs.Finding.{knows_from, start_long}
 use Rattle.lm_backchain.proofs.Sound.{first_facts}
@@ -15,8 +13,8 @@ is_open-requires-clause-long c = start_long c.args.task.now c.args.start.now c.r
 pub back_from-requires-clause-long : goal.back_from-requires-clause-long
 back_from-requires-clause-long c = start_long c.args.task.now c.args.start.now c.requires.add.well_formed c.requires.start
 
-pub firsts_of-requires : goal.firsts_of-requires
-firsts_of-requires c = knows_from c.args.task.now c.args.node.now c.args.start.now c.args.add.now c.evaluate_without.new.self c.requires.start c.requires.add c.evaluate_without.ensures.task c.requires.node c.evaluate_without.ensures.costs
+pub firsts_of-requires-clause-knows : goal.firsts_of-requires-clause-knows
+firsts_of-requires-clause-knows c = knows_from c.args.task.now c.args.node.now c.args.start.now c.args.add.now c.evaluate_without.new.self c.requires.start c.requires.add c.evaluate_without.ensures.task c.requires.node c.evaluate_without.ensures.costs
 
 pub back_from-requires-clause-facts : goal.back_from-requires-clause-facts
 back_from-requires-clause-facts c = rw c.deref.ensures.value (λ conds m. first_facts c.args.task.now c.args.node.now conds c.requires.add.well_formed (c.in_ok-firsts.ensures.each conds m))

@@ -1,0 +1,7 @@
+use Rattle.iterated.proofs.Searching.{searched_so}
+use Rattle.iterated.proofs.searches.search_by.Goals as goal
+
+pub returns-in-Ok-clause-searched : goal.returns-in-Ok-clause-searched
+returns-in-Ok-clause-searched g c =
+    let own = c.turn_to.new.self in
+    searched_so c.args.task.now own.phase c.args.phase.now c.args.bound c.args.stop c.asked.result own.tracks.status.graph c.search.result c.in-Ok.ensures.phase c.asked.ensures c.search.ensures.end
