@@ -11,5 +11,6 @@ pub mod Phasing
 pub mod Placing
 pub mod Stepping
 pub mod Stopping
+pub mod Telling
 pub mod Tells
 pub mod Turning
