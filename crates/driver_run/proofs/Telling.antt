@@ -1,24 +1,18 @@
 -- What is left of a run tells it.
-use Rattle.std.proofs.Common.{◌≡◌, ◌≢◌, ◌∙◌, sym, ap, subst, refl, ℕ, ◌+◌, ◌<◌, ◌≤◌, ◌^◌, zero, suc, List, [], ◌∷◌, ◌++◌, length, map, All, Bool, true, false, slice_get, Option, Some, None, if◌then◌else◌, arith}
-use Rattle.std.proofs.lemmas.List.{length-map}
+use Rattle.std.proofs.Common.{◌≡◌, ◌≢◌, ◌∙◌, sym, ap, subst, refl, ℕ, ◌+◌, ◌<◌, ◌≤◌, ◌^◌, zero, suc, List, [], ◌∷◌, ◌++◌, length, map, All, Bool, true, false, slice_get, Option, Some, None, nat_eq, if◌then◌else◌, arith}
 use Rattle.std.proofs.lemmas.List.Elements.{All-head, All-tail, All-cons, All-nil}
 use Rattle.sas_task.specs.declared.contents.Parts.{Parts}
 use Rattle.sas_task.specs.declared.plans.Kept.{Kept}
 use Rattle.sas_task.specs.Runs.{IsPlanOf}
-use Rattle.driver_core.specs.Keeping.{kept_costs}
-use Rattle.driver_core.specs.Laws.{kept_costs-few}
-use Rattle.driver_core.specs.Settings.{most_plans}
 use Rattle.plan_manager.specs.Sealing.{HaveFewSteps}
 use Rattle.run_report.specs.declared.report.Why.{Why}
-use Rattle.run_report.specs.declared.report.Why.TheVariants.{Finished, PlanLimit, Fault}
+use Rattle.run_report.specs.declared.report.Why.TheVariants.{Finished, PlanLimit}
 use Rattle.run_report.specs.Clocks.{StandInOrder, moments_of, has_memory}
 use Rattle.run_report.specs.Events.{IsRunToEnd}
-use Rattle.run_report.specs.Searches.{Run}
-use Rattle.run_report.specs.Tells.{Turns, events_of}
+use Rattle.run_report.specs.Tells.{Turns}
 use Rattle.run_report.specs.Turns.{ToldTurn}
-use Rattle.driver_run.specs.declared.progress.Progress.{Progress}
-use Rattle.driver_run.specs.Searching.{turns_ended, HasRun, AsksForTurn}
-use Rattle.driver_run.specs.Ending.{AsksAfter}
+use Rattle.driver_run.specs.Searching.{turns_ended, AsksForTurn}
+use Rattle.driver_run.specs.Ending.{AsksAfter, end_by}
 
 -- plans have few steps
 pub few_steps : (parts : Parts) (kept : List Kept) → All (λ (plan : Kept). IsPlanOf parts plan.ops plan.cost) kept → HaveFewSteps kept
@@ -29,24 +23,13 @@ few_steps parts (first ∷ more) all zero plan at = subst (λ (p : Kept). length
     same x y e = cc
 few_steps parts (first ∷ more) all (suc i) plan at = few_steps parts more (All-tail (λ (p : Kept). IsPlanOf parts p.ops p.cost) first more all) i plan at
 
--- a run keeps no more than can be numbered
-pub few_kept : (run : Run) (progress : Progress) (turn : ToldTurn) → HasRun run progress turn → length progress.kept.items ≤ 9999
-few_kept run progress turn is =
-    by_single run.setting.single (length (kept_costs run.setting (events_of (turns_ended turn)))) (length progress.kept.items) is.single (kept_costs-few run.setting (events_of (turns_ended turn)))
-    (ap length is.under_way.costs ∙ length-map progress.kept.items (λ (plan : Kept). plan.cost))
+-- it came to its end
+pub ended_so : (kept : ℕ) (end : Why) → end ≡ end_by kept → IsRunToEnd end
+ended_so kept end is = rw is (by_full (nat_eq kept 9999))
   where
-    by_single : (single : Bool) (n k : ℕ) → single ≡ false → n ≤ most_plans single → n ≡ k → k ≤ 9999
-    by_single true n k is_single most same = let e : true ≡ false = is_single in cc
-    by_single false n k is_single most same = omega (arith, most, same)
-
--- it ended with no fault
-pub ended_so : (full : Bool) → IsRunToEnd (if full then PlanLimit else Finished)
-ended_so true = tt
-ended_so false = tt
-
-pub no_fault : (full : Bool) → (if full then PlanLimit else Finished) ≢ Fault
-no_fault true is = cc
-no_fault false is = cc
+    by_full : (full : Bool) → IsRunToEnd (if full then PlanLimit else Finished)
+    by_full true = tt
+    by_full false = tt
 
 -- the clock was asked as the one turn began
 pub asks_after : (memory : Bool) (began before now : ℕ) (told_before told_now : Option (List ℕ)) (turns : Turns) → moments_of turns ≡ began ∷ [] → (All (λ (turn : ToldTurn). has_memory turn.end.outcome ≡ true) turns.ended → memory ≡ true) →
