@@ -1,11 +1,10 @@
-use Rattle.std.proofs.Common.{◌≡◌, ◌∙◌, sym, subst, refl, length, [], ◌∷◌, Some}
-use Rattle.sas_task.specs.declared.plans.Kept.{Kept}
+use Rattle.std.proofs.Common.{◌≡◌, refl, [], ◌∷◌}
 use Rattle.run_report.specs.Searches.{Run}
 use Rattle.driver_run.specs.declared.running.Left.{Left}
-use Rattle.driver_run.specs.Ending.{IsLeft, report_by}
-use Rattle.driver_run.specs.Searching.{run_by, turns_ended}
+use Rattle.driver_run.specs.Ending.{report_by}
+use Rattle.driver_run.specs.Searching.{run_by}
 use Rattle.driver_run.proofs.Leaving.{sealed_plans}
-use Rattle.driver_run.proofs.Telling.{few_steps, ended_so}
+use Rattle.driver_run.proofs.Telling.{few_steps, left_over}
 use Rattle.driver_run.proofs.running.finish.Goals as goal
 
 pub seal-requires-clause-steps : goal.seal-requires-clause-steps
@@ -20,7 +19,5 @@ returns-in-Ok-clause-left g c config turn is =
     let run : Run = run_by c.args.task.now config progress.core.setting in
     let left : Left = record { kept = progress.kept.items; candidates = progress.candidates.items; ends = progress.ends.items; why = c.why_of-why.result; code = c.code-code.result } in
     let over = c.the_only_turn_ends_the_run.ensures run progress.core turn left.kept left.candidates left.ends is.under_way (rw is.shares refl) is.rounds in
-    subst (λ (l : Left). IsLeft run c.args.many l (turns_ended turn)) (sym c.leave-in-Ok.ensures) (record {
-      tells = c.a_run_is_told.ensures.end run progress.core (turn ∷ []) (report_by run.parts c.args.many run.setting.start left) is.under_way refl over c.why_of-why.ensures (c.code-code.ensures _ is.under_way.stands);
-      end = λ some. ended_so (length progress.kept.items) left.why c.why_of-why.ensures;
-    })
+    left_over run c.args.many progress turn c.leave-in-Ok.result left.why left.code c.leave-in-Ok.ensures c.why_of-why.ensures
+    (c.a_run_is_told.ensures.end run progress.core (turn ∷ []) (report_by run.parts c.args.many run.setting.start left) is.under_way refl over c.why_of-why.ensures (c.code-code.ensures _ is.under_way.stands))
