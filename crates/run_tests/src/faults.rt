@@ -1,47 +1,75 @@
-// Calls of the folder that fail.
-use crate::answers::told_of;
-use crate::folders::{folder, has, report_of};
-use driver_run::Why;
+// Tasks that aren't read, and calls of the folder that fail.
+use crate::folders::{drafted, plans};
+use crate::runs::{Case, Told, own, stopped, tell, tell_of};
+use crate::texts::{jump, two_steps};
+use driver_run::{Input, Why};
 use host_mem::HostCall;
 use lama_num::NoMemory;
+use sas_reader::SasFault;
 use std::alloc::Global;
 use std::test::Fail;
-use test_tasks::three_places;
+use test_tasks::{cut_short, three_places, wide_derived};
 
-/// How many plans are kept where a call fails, if that is told as a fault.
-fn kept_at_fault(alloc: Global, call: HostCall, number: u32) -> Result<Option<usize>, NoMemory> {
-    let mut host = folder(alloc, Some(three_places()), Some((call, number)))?;
-    let report = report_of(alloc, &["t.sas"], &mut host)?;
-    if report.code == 35 && report.why == Why::Fault {
-        Ok(Some(told_of(&report).kept))
-    } else {
-        Ok(None)
-    }
+#[test]
+fn tasks_that_are_refused(rt: HostRuntime) -> Result<(), Fail> {
+    let none = plans(None, None, None);
+    let cut = tell_of(rt.alloc(), &["t.sas"], cut_short(), &none)?;
+    assert!(rt; cut == stopped(Why::Task(SasFault::CutShort { line: 21 }), 33));
+    let wide = tell_of(rt.alloc(), &["t.sas"], wide_derived(), &none)?;
+    assert!(rt; wide == stopped(Why::Task(SasFault::WideDerived { var: 0 }), 34));
+    Ok(())
+}
+
+#[test]
+fn a_task_that_is_not_there(rt: HostRuntime) -> Result<(), Fail> {
+    let case = Case {
+        words: &["t.sas"],
+        task: None,
+        failing: None,
+        files: &plans(None, None, None),
+    };
+    let told = tell(rt.alloc(), &case)?;
+    assert!(rt; told == stopped(Why::NoFile(Input::Task), 36));
+    Ok(())
+}
+
+/// Whether a run is a fault without a plan where the first call of a kind fails.
+fn is_fault(alloc: Global, call: HostCall) -> Result<bool, NoMemory> {
+    let case = Case {
+        words: &["t.sas"],
+        task: Some(three_places()),
+        failing: Some((call, 1)),
+        files: &[],
+    };
+    let told = tell(alloc, &case)?;
+    Ok(told.code == 35 && told.why == Why::Fault && told.kept == 0)
 }
 
 #[test]
 fn calls_of_the_folder_may_fail(rt: HostRuntime) -> Result<(), Fail> {
-    assert!(rt; kept_at_fault(rt.alloc(), HostCall::ReadSome, 1)? == Some(0));
-    assert!(rt; kept_at_fault(rt.alloc(), HostCall::Create, 1)? == Some(0));
-    assert!(rt; kept_at_fault(rt.alloc(), HostCall::Append, 1)? == Some(0));
-    assert!(rt; kept_at_fault(rt.alloc(), HostCall::Rename, 1)? == Some(0));
-    assert!(rt; kept_at_fault(rt.alloc(), HostCall::Remove, 1)? == Some(0));
+    assert!(rt; is_fault(rt.alloc(), HostCall::ReadSome)?);
+    assert!(rt; is_fault(rt.alloc(), HostCall::Create)?);
+    assert!(rt; is_fault(rt.alloc(), HostCall::Append)?);
+    assert!(rt; is_fault(rt.alloc(), HostCall::Rename)?);
+    assert!(rt; is_fault(rt.alloc(), HostCall::Remove)?);
     Ok(())
-}
-
-/// Whether the second rename fails, and the first plan stands whole, and the second as a draft.
-fn stands_at_second(alloc: Global) -> Result<bool, NoMemory> {
-    let mut host = folder(alloc, Some(three_places()), Some((HostCall::Rename, 2)))?;
-    let report = report_of(alloc, &["t.sas"], &mut host)?;
-    let first = has(&host, "sas_plan.1", Some("(jump)\n; cost = 5 (general cost)\n"));
-    let draft = Some("(go01)\n(go12)\n; cost = 2 (general cost)\n");
-    let second = has(&host, "sas_plan.2", None) && has(&host, "sas_plan.part", draft);
-    Ok(first && second && report.kept.len() == 1 && report.code == 35)
 }
 
 #[test]
 fn what_was_kept_before_a_fault_stays(rt: HostRuntime) -> Result<(), Fail> {
-    assert!(rt; kept_at_fault(rt.alloc(), HostCall::Rename, 2)? == Some(1));
-    assert!(rt; stands_at_second(rt.alloc())?);
+    let case = Case {
+        words: &["--alias", "lama", "t.sas"],
+        task: Some(three_places()),
+        failing: Some((HostCall::Rename, 2)),
+        files: &drafted(jump(), two_steps()),
+    };
+    let told = tell(rt.alloc(), &case)?;
+    let wanted = Told {
+        kept: 1,
+        costs: [Some(5), None],
+        candidates: [own(0), None],
+        ..stopped(Why::Fault, 35)
+    };
+    assert!(rt; told == wanted);
     Ok(())
 }

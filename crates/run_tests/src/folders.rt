@@ -1,36 +1,124 @@
-// A folder in memory, runs over it, and what they leave.
+// A folder in memory, and what stands in it.
 ghost use Rattle.std.specs.Prelude.{◌≡◌, [], IfOk};
 ghost use Rattle.host_mem.specs.Memory.{told_of};
 
-use driver_run::{Ended, Report, Whole, read_whole, run};
-use host_mem::{Fail as Failing, HostCall, MemClock, MemHost, MemSink, named};
-use lama_num::NoMemory;
+use driver_run::{Whole, read_whole};
+use host_mem::{Fail as Failing, HostCall, MemHost, named};
+use lama_num::Seq;
 use std::alloc::{AllocError, Global};
 use std::test::Fail;
 
-fn words_of(alloc: Global, words: &[&str]) -> Result<Vec<String>, AllocError> {
+/// A name, and the text that it holds, where it is there.
+#[derive(Clone, Copy, Debug)]
+pub struct File<'a> {
+    pub name: &'a str,
+    pub text: Option<&'a str>,
+}
+
+fn named_so<'a>(name: &'a str, text: Option<&'a str>) -> File<'a> {
+    File { name, text }
+}
+
+/// What stands at the end with just these plans: one without a number, and two with.
+pub fn plans<'a>(
+    plan: Option<&'a str>,
+    first: Option<&'a str>,
+    second: Option<&'a str>,
+) -> [File<'a>; 8] {
+    [
+        named_so("sas_plan", plan),
+        named_so("sas_plan.1", first),
+        named_so("sas_plan.2", second),
+        named_so("sas_plan.3", None),
+        named_so("sas_plan.4", None),
+        named_so("sas_plan.part", None),
+        named_so("sas_plan.07", Some("old")),
+        named_so("other", Some("old")),
+    ]
+}
+
+/// What stands where nothing was changed.
+pub fn unchanged() -> [File<'static>; 8] {
+    [
+        named_so("sas_plan", Some("old")),
+        named_so("sas_plan.1", None),
+        named_so("sas_plan.2", None),
+        named_so("sas_plan.4", Some("old")),
+        named_so("sas_plan.7", Some("old")),
+        named_so("sas_plan.part", Some("old")),
+        named_so("sas_plan.07", Some("old")),
+        named_so("other", Some("old")),
+    ]
+}
+
+/// What stands where the second plan is still a draft.
+pub fn drafted<'a>(first: &'a str, draft: &'a str) -> [File<'a>; 8] {
+    [
+        named_so("sas_plan", None),
+        named_so("sas_plan.1", Some(first)),
+        named_so("sas_plan.2", None),
+        named_so("sas_plan.4", None),
+        named_so("sas_plan.7", None),
+        named_so("sas_plan.part", Some(draft)),
+        named_so("sas_plan.07", Some("old")),
+        named_so("other", Some("old")),
+    ]
+}
+
+fn has(host: &MemHost, file: &File<'_>) -> bool {
+    match (host.holds(file.name), file.text) {
+        (Some(held), Some(text)) => held == text.as_bytes(),
+        (None, None) => true,
+        _ => false,
+    }
+}
+
+/// Whether all these files are so.
+pub fn has_all(host: &MemHost, files: &[File<'_>]) -> bool {
+    files.iter().all(|file| has(host, file))
+}
+
+type Files = Vec<(Seq<u8>, Seq<u8>)>;
+
+fn push_file(alloc: Global, files: &mut Files, name: &str, text: &str) -> Result<(), AllocError> {
+    let file = named(alloc, name, text.as_bytes())?;
+    files.push(file)?;
+    Ok(())
+}
+
+fn push_files(alloc: Global, files: &mut Files, task: Option<&str>) -> Result<(), AllocError> {
+    push_file(alloc, files, "sas_plan", "old")?;
+    push_file(alloc, files, "sas_plan.4", "old")?;
+    push_file(alloc, files, "sas_plan.7", "old")?;
+    push_file(alloc, files, "sas_plan.part", "old")?;
+    push_file(alloc, files, "sas_plan.07", "old")?;
+    push_file(alloc, files, "other", "old")?;
+    match task {
+        Some(text) => push_file(alloc, files, "t.sas", text),
+        None => Ok(()),
+    }
+}
+
+fn files_with(alloc: Global, task: Option<&str>) -> Result<Files, AllocError> {
+    let mut files = Vec::new(alloc);
+    push_files(alloc, &mut files, task)?;
+    Ok(files)
+}
+
+/// The one call of this kind with this number, which fails before its effect.
+fn failing_at(alloc: Global, failing: Option<(HostCall, u32)>) -> Result<Vec<Failing>, AllocError> {
     let mut all = Vec::new(alloc);
-    for word in words {
-        all.push(String::from_str(alloc, word)?)?;
+    if let Some((call, number)) = failing {
+        all.push(Failing {
+            call,
+            number,
+            after: false,
+        })?;
     }
     Ok(all)
 }
 
-/// A run at the moments 7 and 9.
-pub fn report_of(alloc: Global, words: &[&str], host: &mut MemHost) -> Result<Report, NoMemory>
-    requires { (told_of host.old).busy ≡ [] }
-{
-    let words = words_of(alloc, words)?;
-    let mut clock = MemClock::new(Vec::from_slice(alloc, &[7, 9])?);
-    let mut out = MemSink::new(alloc, None);
-    match run(alloc, &words, host, &mut clock, &mut out) {
-        Ended::Done(report) => Ok(report),
-        Ended::NoMemory => Err(NoMemory),
-    }
-}
-
-/// A folder with old plans, other files, and perhaps the task, of which one call may fail: the one
-/// of this kind with this number.
+/// A folder with old plans, other files, and perhaps the task, of which one call may fail.
 pub fn folder(
     alloc: Global,
     task: Option<&str>,
@@ -38,59 +126,11 @@ pub fn folder(
 ) -> Result<MemHost, AllocError>
     ensures { IfOk result (λ host. (told_of host).busy ≡ []) }
 {
-    let mut files = Vec::new(alloc);
-    files.push(named(alloc, "sas_plan", b"old")?)?;
-    files.push(named(alloc, "sas_plan.4", b"old")?)?;
-    files.push(named(alloc, "sas_plan.part", b"old")?)?;
-    files.push(named(alloc, "sas_plan.07", b"old")?)?;
-    files.push(named(alloc, "other", b"old")?)?;
-    if let Some(text) = task {
-        files.push(named(alloc, "t.sas", text.as_bytes())?)?;
+    let failing = failing_at(alloc, failing)?;
+    match files_with(alloc, task) {
+        Ok(files) => Ok(MemHost::new(alloc, files, Vec::new(alloc), failing)),
+        Err(error) => Err(error),
     }
-    let mut fails = Vec::new(alloc);
-    if let Some((call, number)) = failing {
-        fails.push(Failing {
-            call,
-            number,
-            after: false,
-        })?;
-    }
-    Ok(MemHost::new(alloc, files, Vec::new(alloc), fails))
-}
-
-/// Whether a file has this text, or isn't there.
-pub fn has(host: &MemHost, name: &str, text: Option<&str>) -> bool {
-    match (host.holds(name), text) {
-        (Some(held), Some(text)) => held == text.as_bytes(),
-        (None, None) => true,
-        _ => false,
-    }
-}
-
-/// Whether all files that aren't plan files are as before, and no plan has another number than 1 or
-/// 2.
-fn is_sealed(host: &MemHost) -> bool {
-    let gone = has(host, "sas_plan.4", None) && has(host, "sas_plan.part", None);
-    let kept = has(host, "sas_plan.07", Some("old")) && has(host, "other", Some("old"));
-    gone && kept && has(host, "sas_plan.3", None)
-}
-
-/// Whether just these numbered plans are left of the plan files, and all other files are as before.
-pub fn holds(host: &MemHost, first: Option<&str>, second: Option<&str>) -> bool {
-    let plans = has(host, "sas_plan.1", first) && has(host, "sas_plan.2", second);
-    plans && has(host, "sas_plan", None) && is_sealed(host)
-}
-
-/// Whether just the one plan is left of them.
-pub fn holds_one(host: &MemHost, plan: &str) -> bool {
-    let others = has(host, "sas_plan.1", None) && has(host, "sas_plan.2", None);
-    has(host, "sas_plan", Some(plan)) && others && is_sealed(host)
-}
-
-/// A read of a file of five bytes, with this limit.
-fn read_five(alloc: Global, most: u64) -> Result<Whole, Fail> {
-    let mut host = folder(alloc, Some("12345"), None)?;
-    Ok(read_whole(alloc, &mut host, "t.sas", most)?)
 }
 
 fn is_five(whole: Whole) -> bool {
@@ -100,10 +140,25 @@ fn is_five(whole: Whole) -> bool {
     }
 }
 
+/// Whether the file of five bytes is read whole where so many bytes may be read.
+fn reads_five(alloc: Global, host: MemHost, most: u64) -> bool {
+    let mut host = host;
+    match read_whole(alloc, &mut host, "t.sas", most) {
+        Ok(whole) => is_five(whole),
+        Err(_) => false,
+    }
+}
+
 #[test]
 fn whole_files(rt: HostRuntime) -> Result<(), Fail> {
-    let long = read_five(rt.alloc(), 4)?;
-    assert!(rt; matches!(long, Whole::TooLong));
-    assert!(rt; is_five(read_five(rt.alloc(), 5)?));
+    let host = folder(rt.alloc(), Some("12345"), None)?;
+    assert!(rt; reads_five(rt.alloc(), host, 5));
+    Ok(())
+}
+
+#[test]
+fn files_that_are_too_long(rt: HostRuntime) -> Result<(), Fail> {
+    let host = folder(rt.alloc(), Some("12345"), None)?;
+    assert!(rt; !reads_five(rt.alloc(), host, 4));
     Ok(())
 }

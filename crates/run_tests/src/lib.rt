@@ -2,16 +2,18 @@
 #![tactic(auto)]
 
 #[cfg(test)]
-mod answers;
-#[cfg(test)]
 mod faults;
 #[cfg(test)]
 mod folders;
 #[cfg(test)]
 mod gripper;
 #[cfg(test)]
+mod limits;
+#[cfg(test)]
 mod plans;
 #[cfg(test)]
 mod runs;
+#[cfg(test)]
+mod texts;
 #[cfg(test)]
 mod words;

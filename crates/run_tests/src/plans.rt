@@ -1,92 +1,101 @@
 // Runs of plan after plan on small tasks.
-use crate::answers::{Kind, all_states, makes_pops, told, told_by, told_with};
+use crate::folders::plans;
 use crate::gripper::gripper;
+use crate::runs::{End, Told, finished, own, solved, tell_of};
+use crate::texts::{jump, sevens, two_steps};
+use lama_num::NoMemory;
+use std::alloc::Global;
 use std::test::Fail;
 use test_tasks::{at_the_goal, door, no_operator, rivals, swap, three_places, two_layers};
 
-/// The text of the plan of one step: 33 bytes.
-fn jump() -> &'static str {
-    "(jump)\n; cost = 5 (general cost)\n"
-}
-
-/// The text of the plan of two steps: 40 bytes.
-fn two_steps() -> &'static str {
-    "(go01)\n(go12)\n; cost = 2 (general cost)\n"
+/// What the run on a task tells that must leave these plans.
+fn on_task(
+    alloc: Global,
+    task: &str,
+    first: Option<&str>,
+    second: Option<&str>,
+) -> Result<Told, NoMemory> {
+    tell_of(alloc, &["t.sas"], task, &plans(None, first, second))
 }
 
 #[test]
 fn plan_after_plan(rt: HostRuntime) -> Result<(), Fail> {
-    let alloc = rt.alloc();
     assert!(rt; jump().len() == 33 && two_steps().len() == 40);
-    let all = told_with(alloc, three_places(), Some(jump()), Some(two_steps()))?;
-    assert!(rt; all == Some(told(0, 2, Kind::Best, 3, 8)));
-    assert!(rt; makes_pops(alloc, &["t.sas"], three_places(), &[1, 3], 4)?);
+    let words = ["--alias", "lama", "t.sas"];
+    let left = plans(None, Some(jump()), Some(two_steps()));
+    let told = tell_of(rt.alloc(), &words, three_places(), &left)?;
+    let wanted = Told {
+        kept: 2,
+        costs: [Some(5), Some(2)],
+        candidates: [own(0), own(1)],
+        ..finished(0, End::Best, 3, [1, 3, 4], 8)
+    };
+    assert!(rt; told == wanted);
     Ok(())
 }
 
 #[test]
-fn the_first_plan_is_best(rt: HostRuntime) -> Result<(), Fail> {
-    let alloc = rt.alloc();
-    let none = told_with(alloc, at_the_goal(), Some("; cost = 0 (unit cost)\n"), None)?;
-    assert!(rt; none == Some(told(0, 1, Kind::Best, 1, 0)));
-    let shut = "(walk)\n(shut)\n; cost = 2 (unit cost)\n";
-    let door_shut = told_with(alloc, door(), Some(shut), None)?;
-    assert!(rt; door_shut == Some(told(0, 1, Kind::Best, 2, 9)));
-    assert!(rt; makes_pops(alloc, &["t.sas"], door(), &[3], 6)?);
+fn the_goal_holds_at_once(rt: HostRuntime) -> Result<(), Fail> {
+    let none = "; cost = 0 (unit cost)\n";
+    let told = on_task(rt.alloc(), at_the_goal(), Some(none), None)?;
+    assert!(rt; none.len() == 23 && told == solved(0, 1, [0; 3], 0));
+    Ok(())
+}
+
+#[test]
+fn costs_are_unit_costs(rt: HostRuntime) -> Result<(), Fail> {
+    let task = sevens(rt.alloc())?;
+    let plan = "(jump)\n; cost = 1 (unit cost)\n";
+    let told = on_task(rt.alloc(), task.as_str(), Some(plan), None)?;
+    assert!(rt; told == solved(1, 2, [1, 0, 0], 1));
+    Ok(())
+}
+
+#[test]
+fn a_door_is_shut(rt: HostRuntime) -> Result<(), Fail> {
+    let plan = "(walk)\n(shut)\n; cost = 2 (unit cost)\n";
+    let told = on_task(rt.alloc(), door(), Some(plan), None)?;
+    assert!(rt; told == solved(2, 2, [3, 6, 0], 9));
     Ok(())
 }
 
 #[test]
 fn one_step_is_best(rt: HostRuntime) -> Result<(), Fail> {
-    let alloc = rt.alloc();
-    let flipped = told_with(alloc, two_layers(), Some("(flip)\n; cost = 1 (unit cost)\n"), None)?;
-    assert!(rt; flipped.is_some());
-    let swapped = told_with(alloc, swap(), Some("(swap)\n; cost = 1 (unit cost)\n"), None)?;
-    assert!(rt; swapped.is_some());
+    let flip = "(flip)\n; cost = 1 (unit cost)\n";
+    let told = on_task(rt.alloc(), two_layers(), Some(flip), None)?;
+    assert!(rt; told.code == 0 && told.costs == [Some(1), None] && told.is_left_so);
+    let swapped = "(swap)\n; cost = 1 (unit cost)\n";
+    let told = on_task(rt.alloc(), swap(), Some(swapped), None)?;
+    assert!(rt; told.code == 0 && told.costs == [Some(1), None] && told.is_left_so);
     Ok(())
+}
+
+/// The plan for the gripper.
+fn carried() -> &'static str {
+    "(pick ball1 rooma left)
+(move rooma roomb)
+(drop ball1 roomb left)
+; cost = 3 (unit cost)
+"
 }
 
 #[test]
 fn a_ball_is_carried(rt: HostRuntime) -> Result<(), Fail> {
-    let alloc = rt.alloc();
-    let carried = "(pick ball1 rooma left)\n(move rooma roomb)\n(drop ball1 roomb left)\n; cost = 3 (unit cost)\n";
-    let all = told_with(alloc, gripper(), Some(carried), None)?;
-    assert!(rt; all == Some(told(0, 1, Kind::Best, 2, 23)));
-    assert!(rt; makes_pops(alloc, &["t.sas"], gripper(), &[5], 18)?);
+    let told = on_task(rt.alloc(), gripper(), Some(carried()), None)?;
+    assert!(rt; told == solved(3, 2, [5, 18, 0], 23));
     Ok(())
 }
 
 #[test]
-fn no_plan_exists(rt: HostRuntime) -> Result<(), Fail> {
-    let alloc = rt.alloc();
-    let none = told_with(alloc, no_operator(), None, None)?;
-    assert!(rt; none == Some(told(11, 0, Kind::Unsolvable, 1, 0)));
-    assert!(rt; all_states(alloc, no_operator())? == Some(1));
-    let rivals_meet = told_with(alloc, rivals(), None, None)?;
-    assert!(rt; rivals_meet == Some(told(11, 0, Kind::Unsolvable, 1, 20)));
-    assert!(rt; all_states(alloc, rivals())? == Some(3));
+fn no_operator_leads_on(rt: HostRuntime) -> Result<(), Fail> {
+    let told = on_task(rt.alloc(), no_operator(), None, None)?;
+    assert!(rt; told == finished(11, End::Unsolvable { states: 1 }, 1, [0; 3], 0));
     Ok(())
 }
 
 #[test]
-fn no_plan_is_below_the_bound(rt: HostRuntime) -> Result<(), Fail> {
-    let alloc = rt.alloc();
-    let words = ["--bound", "2", "t.sas"];
-    assert!(rt; told_by(alloc, &words, three_places())? == told(12, 0, Kind::Best, 3, 10));
-    assert!(rt; makes_pops(alloc, &words, three_places(), &[2, 4], 4)?);
-    let none = ["--bound", "0", "t.sas"];
-    assert!(rt; told_by(alloc, &none, three_places())? == told(12, 0, Kind::Best, 0, 0));
-    Ok(())
-}
-
-#[test]
-fn limits_of_a_phase(rt: HostRuntime) -> Result<(), Fail> {
-    let alloc = rt.alloc();
-    let five = ["--search", "lazy_greedy([ff()],max_pops=5)", "t.sas"];
-    assert!(rt; told_by(alloc, &five, rivals())? == told(23, 0, Kind::Pops(5), 1, 5));
-    let six = ["--search", "lazy_greedy([ff()],max_pops=6)", "t.sas"];
-    assert!(rt; told_by(alloc, &six, rivals())? == told(11, 0, Kind::Unsolvable, 1, 6));
-    let two = ["--search", "lazy_greedy([ff()],max_states=2)", "t.sas"];
-    assert!(rt; told_by(alloc, &two, rivals())? == told(23, 0, Kind::States(2), 1, 3));
+fn goals_that_destroy_each_other(rt: HostRuntime) -> Result<(), Fail> {
+    let told = on_task(rt.alloc(), rivals(), None, None)?;
+    assert!(rt; told == finished(11, End::Unsolvable { states: 3 }, 1, [20, 0, 0], 20));
     Ok(())
 }

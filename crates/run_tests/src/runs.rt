@@ -1,152 +1,277 @@
-// Runs on small tasks.
-use crate::folders::{folder, has, is_sealed, report_of};
-use candidates::Found;
-use driver_run::{EntryEnd, Input, Outcome, Report, Why};
-use host_mem::HostCall;
+// What a run tells and leaves, as plain values, by functions that promise nothing, so that the
+// proof of a test has nothing to carry. Each big value is given up in a function of its own.
+ghost use Rattle.std.specs.Prelude.{◌≡◌, []};
+ghost use Rattle.host_mem.specs.Memory.{told_of};
+
+use crate::folders::{File, folder, has_all};
+use driver_run::{Candidate, Ended, EntryEnd, Found, Outcome, Past, Report, Why, run};
+use host_mem::{HostCall, MemClock, MemHost, MemSink};
 use lama_num::NoMemory;
-use sas_reader::SasFault;
-use std::alloc::Global;
-use std::test::Fail;
-use test_tasks::{
-    at_the_goal, cut_short, door, no_operator, rivals, swap, three_places, two_layers, wide_derived,
-};
+use sas_task::Kept;
+use search_log::LimitHit;
+use std::alloc::{AllocError, Global};
 
-/// The text of the plan of two steps: 40 bytes.
-fn two_steps() -> &'static str {
-    "(go01)\n(go12)\n; cost = 2 (general cost)\n"
+/// A run: its words, the task that the folder holds as `t.sas`, the call of the folder that fails,
+/// and what must stand in the folder afterwards.
+#[derive(Clone, Copy, Debug)]
+pub struct Case<'a> {
+    pub words: &'a [&'a str],
+    pub task: Option<&'a str>,
+    pub failing: Option<(HostCall, u32)>,
+    pub files: &'a [File<'a>],
 }
 
-/// Whether a run on a task ends so, and leaves this plan and the task.
-fn ends_with(
-    alloc: Global,
-    task: Option<&str>,
-    code: u8,
-    why: Why,
-    plan: Option<&str>,
-) -> Result<bool, NoMemory> {
-    let mut host = folder(alloc, task, None)?;
-    let report = report_of(alloc, &["t.sas"], &mut host)?;
-    let left = is_sealed(&host, plan) && has(&host, "t.sas", task);
-    Ok(report.code == code && report.why == why && left)
+/// How the one entry of a run ended.
+#[derive(Clone, Copy, Debug, PartialEq, Eq)]
+pub enum End {
+    /// The run has no entry that ended.
+    Never,
+    Best,
+    Unsolvable { states: u32 },
+    Unsolved,
+    Over,
+    Limit(LimitHit),
+    NoMemory,
 }
 
-/// Whether a task is solved by the plan of this text.
-fn is_solved(alloc: Global, task: &str, plan: &str) -> Result<bool, NoMemory> {
-    ends_with(alloc, Some(task), 0, Why::Finished, Some(plan))
+/// What a run tells: why it ended and with which code, how many plans it kept, with the costs and
+/// the candidates of the first two; how its entry ended, after how many phases, the pops of the
+/// first three of them, and of all; when the run began, and its entry; and whether the files are as
+/// they must be.
+#[derive(Clone, Copy, Debug, PartialEq, Eq)]
+pub struct Told {
+    pub why: Why,
+    pub code: u8,
+    pub kept: usize,
+    pub costs: [Option<u64>; 2],
+    pub candidates: [Option<Candidate>; 2],
+    pub start: u64,
+    pub began: u64,
+    pub end: End,
+    pub phases: u32,
+    pub pops: [usize; 3],
+    pub all_pops: u64,
+    pub is_left_so: bool,
 }
 
-#[test]
-fn tasks_are_solved(rt: HostRuntime) -> Result<(), Fail> {
-    let alloc = rt.alloc();
-    assert!(rt; two_steps().len() == 40 && is_solved(alloc, three_places(), two_steps())?);
-    assert!(rt; is_solved(alloc, two_layers(), "(flip)\n; cost = 1 (unit cost)\n")?);
-    assert!(rt; is_solved(alloc, swap(), "(swap)\n; cost = 1 (unit cost)\n")?);
-    assert!(rt; is_solved(alloc, door(), "(walk)\n(shut)\n; cost = 2 (unit cost)\n")?);
-    assert!(rt; is_solved(alloc, at_the_goal(), "; cost = 0 (unit cost)\n")?);
-    Ok(())
-}
-
-#[test]
-fn other_runs_leave_no_plan(rt: HostRuntime) -> Result<(), Fail> {
-    let alloc = rt.alloc();
-    let cut = Why::Task(SasFault::CutShort { line: 21 });
-    let wide = Why::Task(SasFault::WideDerived { var: 0 });
-    assert!(rt; ends_with(alloc, Some(no_operator()), 11, Why::Finished, None)?);
-    assert!(rt; ends_with(alloc, Some(rivals()), 11, Why::Finished, None)?);
-    assert!(rt; ends_with(alloc, Some(cut_short()), 33, cut, None)?);
-    assert!(rt; ends_with(alloc, Some(wide_derived()), 34, wide, None)?);
-    assert!(rt; ends_with(alloc, None, 36, Why::NoFile(Input::Task), None)?);
-    Ok(())
-}
-
-/// The report of a run on a task.
-fn report_on(alloc: Global, task: &str) -> Result<Report, NoMemory> {
-    let mut host = folder(alloc, Some(task), None)?;
-    report_of(alloc, &["t.sas"], &mut host)
-}
-
-/// How many states the one end has in its space, where it is Unsolvable.
-fn states_of(ends: &[EntryEnd]) -> Option<u32> {
-    match ends {
-        [end] => match &end.outcome {
-            Outcome::Unsolvable { space, .. } => Some(space.len()),
-            Outcome::Over { .. } | Outcome::Limit { .. } => None,
+fn end_of(outcome: &Outcome) -> End {
+    match outcome {
+        Outcome::Best { .. } => End::Best,
+        Outcome::Unsolvable { space, .. } => End::Unsolvable {
+            states: space.len(),
         },
-        _ => None,
+        Outcome::Unsolved { .. } => End::Unsolved,
+        Outcome::Over => End::Over,
+        Outcome::Limit { hit, .. } => End::Limit(*hit),
+        Outcome::NoMemory => End::NoMemory,
     }
 }
 
-/// Whether the one plan kept is these operators at that cost.
-fn is_kept(report: &Report, ops: &[u32], cost: u64) -> bool {
-    match report.kept.as_slice() {
-        [kept] => kept.ops.as_slice() == ops && kept.cost == cost,
-        _ => false,
+fn past_pops(past: &Past) -> usize {
+    match past {
+        Past::Plan { log, .. } => log.pops(),
+        Past::Unsolved { log, .. } => log.pops(),
     }
 }
 
-/// Whether the one candidate is a plan of this process that was kept.
-fn is_own_plan(report: &Report) -> bool {
-    match report.candidates.as_slice() {
-        [candidate] => {
-            candidate.round == 1
-                && candidate.entry == 1
-                && candidate.file.is_none()
-                && matches!(&candidate.found, Found::Kept { index: 0 })
-        }
-        _ => false,
+fn last_pops(outcome: &Outcome) -> usize {
+    match outcome {
+        Outcome::Best { log, .. } => log.pops(),
+        Outcome::Unsolvable { log, .. } => log.pops(),
+        Outcome::Unsolved { log, .. } => log.pops(),
+        Outcome::Limit { log, .. } => log.pops(),
+        Outcome::Over | Outcome::NoMemory => 0,
     }
 }
 
-/// Whether the one entry began at this moment, and was over.
-fn is_over(ends: &[EntryEnd], began: u64) -> bool {
-    match ends {
-        [end] => end.entry == 1
-            && end.began == began
-            && matches!(&end.outcome, Outcome::Over { .. }),
-        _ => false,
+/// The pops of the phase at a place.
+fn pops_at(end: &EntryEnd, place: usize) -> usize {
+    let past = end.past.as_slice();
+    match past.get(place) {
+        Some(past) => past_pops(past),
+        None if place == past.len() => last_pops(&end.outcome),
+        None => 0,
     }
 }
 
-/// Whether the one plan kept of a run on a task is these operators at that cost, found by this
-/// process in the entry that began at 9, of a run that began at 7.
-fn tells_of_plan(alloc: Global, task: &str, ops: &[u32], cost: u64) -> Result<bool, NoMemory> {
-    let report = report_on(alloc, task)?;
-    let is_timed = report.start == 7 && is_over(&report.ends, 9);
-    Ok(is_timed && is_kept(&report, ops, cost) && is_own_plan(&report))
+fn cost_at(kept: &[Kept], place: usize) -> Option<u64> {
+    match kept.get(place) {
+        Some(kept) => Some(kept.cost),
+        None => None,
+    }
 }
 
-/// Whether a run on a task has no plan and no candidate, and exhausted so many states.
-fn tells_of_space(alloc: Global, task: &str, states: u32) -> Result<bool, NoMemory> {
-    let report = report_on(alloc, task)?;
-    let is_empty = report.kept.is_empty() && report.candidates.is_empty();
-    Ok(is_empty && states_of(&report.ends) == Some(states))
+fn candidate_at(candidates: &[Candidate], place: usize) -> Option<Candidate> {
+    match candidates.get(place) {
+        Some(candidate) => Some(*candidate),
+        None => None,
+    }
 }
 
-#[test]
-fn reports_tell_what_happened(rt: HostRuntime) -> Result<(), Fail> {
-    let alloc = rt.alloc();
-    assert!(rt; tells_of_plan(alloc, three_places(), &[0, 1], 2)?);
-    assert!(rt; tells_of_plan(alloc, door(), &[0, 1], 2)?);
-    assert!(rt; tells_of_plan(alloc, at_the_goal(), &[], 0)?);
-    assert!(rt; tells_of_space(alloc, no_operator(), 1)?);
-    assert!(rt; tells_of_space(alloc, rivals(), 3)?);
-    Ok(())
+/// What is told without an entry.
+fn told_before(report: &Report) -> Told {
+    let kept = report.kept.as_slice();
+    let candidates = report.candidates.as_slice();
+    Told {
+        why: report.why,
+        code: report.code,
+        kept: kept.len(),
+        costs: [cost_at(kept, 0), cost_at(kept, 1)],
+        candidates: [candidate_at(candidates, 0), candidate_at(candidates, 1)],
+        start: report.start,
+        began: 0,
+        end: End::Never,
+        phases: 0,
+        pops: [0; 3],
+        all_pops: 0,
+        is_left_so: false,
+    }
 }
 
-/// Whether a run is a fault, and leaves no plan, where the first call of a kind fails.
-fn is_fault(alloc: Global, call: HostCall) -> Result<bool, NoMemory> {
-    let mut host = folder(alloc, Some(three_places()), Some(call))?;
-    let report = report_of(alloc, &["t.sas"], &mut host)?;
-    let told = report.code == 35 && report.why == Why::Fault;
-    Ok(told && !has(&host, "sas_plan", Some(two_steps())))
+fn told_of_entry(told: Told, end: &EntryEnd) -> Told {
+    Told {
+        began: end.began,
+        end: end_of(&end.outcome),
+        phases: end.phases,
+        pops: [pops_at(end, 0), pops_at(end, 1), pops_at(end, 2)],
+        all_pops: end.pops,
+        ..told
+    }
 }
 
-#[test]
-fn calls_of_the_folder_may_fail(rt: HostRuntime) -> Result<(), Fail> {
-    assert!(rt; is_fault(rt.alloc(), HostCall::ReadSome)?);
-    assert!(rt; is_fault(rt.alloc(), HostCall::Create)?);
-    assert!(rt; is_fault(rt.alloc(), HostCall::Append)?);
-    assert!(rt; is_fault(rt.alloc(), HostCall::Rename)?);
-    assert!(rt; is_fault(rt.alloc(), HostCall::Remove)?);
-    Ok(())
+fn told_in(report: &Report) -> Told {
+    let told = told_before(report);
+    match report.ends.as_slice() {
+        [end] => told_of_entry(told, end),
+        _ => told,
+    }
+}
+
+fn told_at(ended: &Ended) -> Result<Told, NoMemory> {
+    match ended {
+        Ended::Done(report) => Ok(told_in(report)),
+        Ended::NoMemory => Err(NoMemory),
+    }
+}
+
+fn told_by(ended: Ended) -> Result<Told, NoMemory> {
+    told_at(&ended)
+}
+
+/// A run at the moments 7 and 9.
+fn run_at(
+    alloc: Global,
+    words: &[String],
+    times: Vec<u64>,
+    host: &mut MemHost,
+) -> Result<Told, NoMemory>
+    requires { (told_of host.old).busy ≡ [] }
+{
+    let mut clock = MemClock::new(times);
+    let mut out = MemSink::new(alloc, None);
+    told_by(run(alloc, words, host, &mut clock, &mut out))
+}
+
+fn words_of(alloc: Global, words: &[&str]) -> Result<Vec<String>, AllocError> {
+    let mut all = Vec::new(alloc);
+    for word in words {
+        all.push(String::from_str(alloc, word)?)?;
+    }
+    Ok(all)
+}
+
+fn run_by(alloc: Global, words: &[&str], host: &mut MemHost) -> Result<Told, NoMemory>
+    requires { (told_of host.old).busy ≡ [] }
+{
+    let words = words_of(alloc, words)?;
+    let times = Vec::from_slice(alloc, &[7, 9])?;
+    run_at(alloc, &words, times, host)
+}
+
+fn with_files(told: Result<Told, NoMemory>, is_left_so: bool) -> Result<Told, NoMemory> {
+    let told = told?;
+    Ok(Told { is_left_so, ..told })
+}
+
+fn run_over(alloc: Global, host: MemHost, case: &Case<'_>) -> Result<Told, NoMemory>
+    requires { (told_of host).busy ≡ [] }
+{
+    let mut host = host;
+    let told = run_by(alloc, case.words, &mut host);
+    let is_left_so = has_all(&host, case.files);
+    with_files(told, is_left_so)
+}
+
+/// What a run tells and leaves.
+pub fn tell(alloc: Global, case: &Case<'_>) -> Result<Told, NoMemory> {
+    match folder(alloc, case.task, case.failing) {
+        Ok(host) => run_over(alloc, host, case),
+        Err(AllocError) => Err(NoMemory),
+    }
+}
+
+/// What the run of these words on a task tells and leaves, where no call of the folder fails.
+pub fn tell_of(
+    alloc: Global,
+    words: &[&str],
+    task: &str,
+    files: &[File<'_>],
+) -> Result<Told, NoMemory> {
+    let case = Case {
+        words,
+        task: Some(task),
+        failing: None,
+        files,
+    };
+    tell(alloc, &case)
+}
+
+/// What is told of a run that came to no entry, and left all as it must be.
+pub fn stopped(why: Why, code: u8) -> Told {
+    Told {
+        why,
+        code,
+        kept: 0,
+        costs: [None; 2],
+        candidates: [None; 2],
+        start: 7,
+        began: 0,
+        end: End::Never,
+        phases: 0,
+        pops: [0; 3],
+        all_pops: 0,
+        is_left_so: true,
+    }
+}
+
+/// What is told of a run to its end without a plan.
+pub fn finished(code: u8, end: End, phases: u32, pops: [usize; 3], all_pops: u64) -> Told {
+    Told {
+        began: 9,
+        end,
+        phases,
+        pops,
+        all_pops,
+        ..stopped(Why::Finished, code)
+    }
+}
+
+/// The candidate of this process that is kept at a place.
+pub fn own(index: u32) -> Option<Candidate> {
+    Some(Candidate {
+        round: 1,
+        entry: 1,
+        file: None,
+        found: Found::Kept { index },
+    })
+}
+
+/// What is told of a run that kept one plan, and ended in Best.
+pub fn solved(cost: u64, phases: u32, pops: [usize; 3], all_pops: u64) -> Told {
+    Told {
+        kept: 1,
+        costs: [Some(cost), None],
+        candidates: [own(0), None],
+        ..finished(0, End::Best, phases, pops, all_pops)
+    }
 }
