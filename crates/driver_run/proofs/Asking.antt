@@ -14,7 +14,13 @@ use Rattle.iterated.specs.declared.ends.PhaseEnd.TheVariants.{Plan, Unsolvable, 
 use Rattle.iterated.specs.Ends.{EndsFrom, PhaseEnds, AsksFrom, search_end}
 use Rattle.iterated.specs.Searches.{search_phase}
 use Rattle.lama_host.specs.Streams.{Answers}
-use Rattle.driver_run.specs.Searching.{AsksNoMore, AsksForTurn}
+use Rattle.run_report.specs.declared.report.Outcome.{Outcome}
+use Rattle.run_report.specs.Clocks.{has_memory}
+use Rattle.run_report.specs.Turns.{ToldTurn}
+use Rattle.driver_core.specs.declared.settings.Setting.{Setting}
+use Rattle.driver_run.specs.declared.progress.Progress.{Progress}
+use Rattle.driver_run.specs.declared.progress.Trail.{Trail}
+use Rattle.driver_run.specs.Searching.{run_by, AsksNoMore, AsksForTurn, HasEnded, HasRun}
 
 same_asks : (before after : Option (List ℕ)) → after ≡ before → AsksNoMore true before after
 same_asks before after same = record { answers = λ all told. (all, [], sym same ∙ told, sym (append-nil all), λ memory. refl) }
@@ -102,3 +108,18 @@ asks_turn memory began before now told_before told_mid told_now later last first
       let f = first b.0 b.2 in
       (f.0, b.1, f.1, b.3 ∙ ap (λ front. front ++ b.1) f.2 ∙ append_assoc f.0 (began ∷ []) b.1, b.4);
 }
+
+-- the one turn came to its end
+pub turn_told : (parts : Parts) (config : Config) (setting begun : Setting) (progress next : Progress) (trail : Trail) (outcome : Outcome) (began before now : ℕ) (told_before told_mid told_now : Option (List ℕ)) →
+    begun ≡ setting → progress.core.setting ≡ begun → trail.began ≡ began → before ≤ began → began ≤ now → Answers told_before told_mid began → AsksNoMore (has_memory outcome) told_mid told_now →
+    HasEnded (run_by parts config begun) progress trail outcome →
+    (HasEnded (run_by parts config progress.core.setting) progress trail outcome → (turn : ToldTurn) × (turn.end.outcome ≡ outcome) × (turn.end.began ≡ trail.began) × HasRun (run_by parts config progress.core.setting) next turn) →
+    (turn : ToldTurn) × HasRun (run_by parts config setting) next turn × AsksForTurn (has_memory turn.end.outcome) turn.end.began before now told_before told_now
+turn_told parts config setting begun progress next trail outcome began before now told_before told_mid told_now set same is_began later last first asks ended told =
+    let t = told (subst (λ s. HasEnded (run_by parts config s) progress trail outcome) (sym same) ended) in (
+      t.0,
+      subst (λ s. HasRun (run_by parts config s) next t.0) (same ∙ set) t.3,
+      subst (λ o. AsksForTurn (has_memory o) t.0.end.began before now told_before told_now) (sym t.1)
+          (subst (λ b. AsksForTurn (has_memory outcome) b before now told_before told_now) (sym (t.2 ∙ is_began))
+          (asks_turn (has_memory outcome) began before now told_before told_mid told_now later last first asks)),
+    )

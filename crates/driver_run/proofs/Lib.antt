@@ -13,5 +13,6 @@ pub mod Placing
 pub mod Reporting
 pub mod Stepping
 pub mod Stopping
+pub mod Telling
 pub mod Tells
 pub mod Turning

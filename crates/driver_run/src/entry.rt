@@ -1,5 +1,5 @@
 // The one entry of a run: its phases, and its end.
-ghost use Rattle.std.specs.Prelude.{◌≡◌, ◌≤◌, ◌<◌, [], IfOk, OnOk, OnErr, Err};
+ghost use Rattle.std.specs.Prelude.{◌≡◌, ◌≤◌, ◌<◌, [], ◌∷◌, IfOk, OnOk, OnErr, Err};
 ghost use Rattle.std.specs.Prelude.{vec_len, vec_capacity, length, false};
 ghost use Rattle.lama_host.specs.Folder.{Rose};
 ghost use Rattle.lama_host.specs.Steps.{Leaves, Stays};
@@ -70,7 +70,11 @@ fn begin(progress: &mut Progress, began: u64)
 fn end(progress: &mut Progress, trail: Trail, outcome: Outcome)
     requires room { vec_len progress.old.ends < vec_capacity progress.old.ends }
     requires first { progress.old.ends.items ≡ [] }
+    requires shares { progress.old.core.setting.shares ≡ 1 ∷ [] }
+    requires single { progress.old.core.setting.single ≡ false }
+    requires rounds { progress.old.core.setting.rounds ≡ false }
     ensures setting { progress.new.core.setting ≡ progress.old.core.setting }
+    ensures kept { progress.new.kept ≡ progress.old.kept }
     ensures ended { (parts : TheParts) (config : TheConfig) →
         HasEnded (run_by parts config progress.old.core.setting) progress.old trail outcome →
         (turn : ToldTurn) × (turn.end.outcome ≡ outcome) × (turn.end.began ≡ trail.began)

@@ -34,7 +34,10 @@ use conf_text::{ConfError, Config};
 use lama_host::{Clock, Failed, Folder, Host, Sink};
 use lama_num::{NameBuf, NoMemory, Seq};
 use plan_manager::{clear, seal};
-use run_report::{Ended, EntryEnd, Input, Report, Why, a_run_with_room_is_complete};
+use run_report::{
+    Ended, EntryEnd, Input, Report, Why, a_run_is_told, a_run_with_room_is_complete,
+    the_only_turn_ends_the_run,
+};
 use sas_reader::SasFault;
 use sas_task::{Kept, Task};
 use std::alloc::Global;
@@ -184,6 +187,8 @@ fn finish<F: Folder>(
         → HasRun (run_by task.now config progress.core.setting) progress turn
         → IsLeft (run_by task.now config progress.core.setting) many result (turns_ended turn) }
 {
+    the_only_turn_ends_the_run();
+    a_run_is_told();
     match seal(folder, base, many, task, &progress.kept) {
         Err(Failed) => leave(progress, Why::Fault, 35),
         Ok(()) => {
@@ -220,6 +225,7 @@ fn run_on<F: Folder, C: Clock>(
         (run_by task.now config.now progress.core.setting) many (C.last clock.old)
         (C.last clock.new) (C.answers clock.old) (C.answers clock.new) left) }
 {
+    a_run_is_told();
     let mut progress = progress;
     match run_entry(
         alloc,
