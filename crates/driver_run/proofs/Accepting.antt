@@ -192,6 +192,7 @@ run_on_line words line before now last_before last_now answers_before answers_no
         accepted_run words (record { task = line.task; aim = record { chosen = chosen; bound = line.bound } }) before now last_before last_now answers_before answers_now report asks on stays
     by_report chosen ended.NoMemory asks on =
         unfinished_run words (record { task = line.task; aim = record { chosen = chosen; bound = line.bound } }) before now last_before last_now answers_before answers_now asks stays
+
     by_chosen : (chosen : Result Chosen ConfBad) → chosen_of line.work ≡ chosen → IsRun words before now last_before last_now answers_before answers_now result
     by_chosen (Ok chosen) at = by_report chosen result (ap request_in (sym is) ∙ ap (request_by line) at) (accepted chosen at)
     by_chosen (Err bad) at = let r = refused bad at in refused_config words bad before now last_before last_now answers_before answers_now result (ap request_in (sym is) ∙ ap (request_by line) at) r.0 r.1 stays

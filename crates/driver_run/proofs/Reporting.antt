@@ -92,13 +92,16 @@ asked_first before now start told_before told_mid told_now report turns later an
   moments = All-weaker (λ moment. (start ≤ moment) × (moment ≤ now)) (λ moment. (report.start ≤ moment) × (moment ≤ now)) (λ moment m. (omega (arith, is, m.0), m.1)) (moments_of turns) asks.moments;
   answers = λ all told.
       let a = asks.answers all told in
-      let first = answers a.0 a.2 in
-      (first.0, first.1, record {
-        added = a.1;
-        all_is = a.3 ∙ ap (λ past. past ++ a.1) first.2 ∙ append_assoc first.0 (start ∷ []) a.1 ∙ ap (λ s. first.0 ++ s ∷ a.1) (sym is);
-        in_order = a.4;
-        only = a.5;
-      });
+      let first = answers a.0 a.2 in (
+        first.0,
+        first.1,
+        record {
+          added = a.1;
+          all_is = a.3 ∙ ap (λ past. past ++ a.1) first.2 ∙ append_assoc first.0 (start ∷ []) a.1 ∙ ap (λ s. first.0 ++ s ∷ a.1) (sym is);
+          in_order = a.4;
+          only = a.5;
+        },
+      );
 }
 
 -- the clock was asked as the run began, and then for its turns
