@@ -120,6 +120,6 @@ turn_told parts config setting begun progress next trail outcome began before no
       t.0,
       subst (λ s. HasRun (run_by parts config s) next t.0) (same ∙ set) t.3,
       subst (λ o. AsksForTurn (has_memory o) t.0.end.began before now told_before told_now) (sym t.1)
-      (subst (λ b. AsksForTurn (has_memory outcome) b before now told_before told_now) (sym (t.2 ∙ is_began))
-      (asks_turn (has_memory outcome) began before now told_before told_mid told_now later last first asks)),
+          (subst (λ b. AsksForTurn (has_memory outcome) b before now told_before told_now) (sym (t.2 ∙ is_began))
+          (asks_turn (has_memory outcome) began before now told_before told_mid told_now later last first asks)),
     )

@@ -112,9 +112,11 @@ best_ended parts phases many progress trail more space zero log bound is present
   where
     alone : (n : ℕ) → n ≡ n + 0
     alone n = omega arith
+
     at_none : (next : Option ℕ) → EndsFrom parts phases.config (Some zero) None (begun next (Some zero)) (ended.Best space log) → length log.pops ≡ 0
     at_none None is_end = cc
     at_none (Some place) is_end = let e : ended.Best space log ≡ ended.Best [] no_log = is_end in let l : log ≡ no_log = cc in ap (λ (c : Content). length c.pops) l
+
     no_pops : (b : Option ℕ) → b ≡ Some zero → EndsFrom parts phases.config b None (begun phases.next b) (ended.Best space log) → length log.pops ≡ 0
     no_pops b is_zero is_end = at_none phases.next (rw is_zero at is_end)
 best_ended parts phases many progress trail more space (suc n) log bound is present some ends cheaper counted none =

@@ -88,7 +88,7 @@ goes_on parts phases next_phases many progress next trail more ops cost log boun
     let turn = takes.kept.core events bound (in_turn parts phases many progress trail is) keeps found.below in
     let after : next_phases.next ≡ place_after_plan config at.place = takes.next_is ∙ ap (λ b. next_from config b (Plan ops cost log)) at.begins_is in
     let under_way = kept_more run progress.core next.core trail.began is.offered progress.kept.items progress.candidates.items ops cost is.under_way takes.setting
-        (rw takes.kept.kept at turn) found.plan (subst (λ b. is_below b cost ≡ true) keeps.present found.below) in
+    (rw takes.kept.kept at turn) found.plan (subst (λ b. is_below b cost ≡ true) keeps.present found.below) in
     record {
       offered = offered;
       found = true;
@@ -96,15 +96,15 @@ goes_on parts phases next_phases many progress next trail more ops cost log boun
           (rw (takes.config, takes.passed.began, takes.kept.kept, takes.kept.candidates) under_way);
       came = subst (λ s. CameTo (run_by parts next_phases.config s) more offered (standing_at (run_by parts next_phases.config s) next_phases next more offered true)) (sym takes.setting)
           (subst (λ c. CameTo (run_by parts c setting) more offered (standing_at (run_by parts c setting) next_phases next more offered true)) (sym takes.config) (record {
-          own = All-push IsOwn is.offered (own_offer ops cost) is.came.own (refl, tt);
-          went = went_so (search_of run 1) (standing_after setting []) _ _ _ _ _ _ takes.passed.past (plans_more trail.began is.offered ops cost)
-              (same_standing _ _ _ _ _ _ true
-              (takes.next_is ∙ ap (λ b. next_from config (begun phases.next b) (Plan ops cost log)) keeps.present)
-              (ap length takes.kept.kept ∙ length-append progress.kept.items (own_plan ops cost ∷ []))
-              (ap (λ b. bound_of setting (events_of (turns_on b offered))) takes.passed.began ∙ bound_after setting (events_of (turns_on trail.began offered)) progress.kept.items (own_plan ops cost) under_way.costs))
-              (went_plan (search_of run 1) (standing_after setting []) trail.past.items (plans_in (begun_with trail.began is.offered)) (standing_at run phases progress trail is.offered is.found) log (own_plan ops cost) is.came.went
-              (subst (λ b. EndsFrom parts config b None (begun phases.next b) (Plan ops cost log)) keeps.present takes.ends));
-        }));
+            own = All-push IsOwn is.offered (own_offer ops cost) is.came.own (refl, tt);
+            went = went_so (search_of run 1) (standing_after setting []) _ _ _ _ _ _ takes.passed.past (plans_more trail.began is.offered ops cost)
+                (same_standing _ _ _ _ _ _ true
+                (takes.next_is ∙ ap (λ b. next_from config (begun phases.next b) (Plan ops cost log)) keeps.present)
+                (ap length takes.kept.kept ∙ length-append progress.kept.items (own_plan ops cost ∷ []))
+                (ap (λ b. bound_of setting (events_of (turns_on b offered))) takes.passed.began ∙ bound_after setting (events_of (turns_on trail.began offered)) progress.kept.items (own_plan ops cost) under_way.costs))
+                (went_plan (search_of run 1) (standing_after setting []) trail.past.items (plans_in (begun_with trail.began is.offered)) (standing_at run phases progress trail is.offered is.found) log (own_plan ops cost) is.came.went
+                (subst (λ b. EndsFrom parts config b None (begun phases.next b) (Plan ops cost log)) keeps.present takes.ends));
+          }));
       ends = rw takes.no_ends is.ends;
       single_run = rw takes.setting is.single_run;
       config = rw takes.config is.config;

@@ -1,3 +1,4 @@
+pub mod Accepting
 pub mod Asking
 pub mod Beginning
 pub mod Closing
@@ -9,6 +10,7 @@ pub mod OwnNames
 pub mod Passing
 pub mod Phasing
 pub mod Placing
+pub mod Reporting
 pub mod Stepping
 pub mod Stopping
 pub mod Telling

@@ -39,4 +39,3 @@ own_part base = own_by base (part_name base) (codes ".part") refl refl
 
 pub own_number : (base : List ℕ) (n : ℕ) → 1 ≤ n → n ≤ 9999 → is_own_name base (numbered_name base n) ≡ true
 own_number base n low high = own_by base (numbered_name base n) (46 ∷ decimal n) (append_assoc base (codes ".") (decimal n)) (or_first _ _ _ (plan_number n low high))
-

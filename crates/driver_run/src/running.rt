@@ -5,7 +5,6 @@ ghost use Rattle.std.specs.FinMap.{get};
 ghost use Rattle.lama_host.specs.Folder.{WhereTold, Rose};
 ghost use Rattle.plan_manager.specs.Clearing.{IsCleared};
 ghost use Rattle.lama_host.specs.Steps.{Leaves, Stays};
-ghost use Rattle.sas_task.specs.WellFormed.{IsWellFormed};
 ghost use Rattle.conf_text.specs.Accepted.{IsConfig};
 ghost use Rattle.conf_text.specs.declared.config.Config.{Config as TheConfig};
 ghost use Rattle.conf_text.specs.declared.faults.ConfBad.{ConfBad as TheBad};
@@ -35,8 +34,10 @@ use conf_text::{ConfError, Config};
 use lama_host::{Clock, Failed, Folder, Host, Sink};
 use lama_num::{NameBuf, NoMemory, Seq};
 use plan_manager::{clear, seal};
-use run_report::{Ended, EntryEnd, Input, Report, Why};
-use run_report::{a_run_is_told, the_only_turn_ends_the_run};
+use run_report::{
+    Ended, EntryEnd, Input, Report, Why, a_run_is_told, a_run_with_room_is_complete,
+    the_only_turn_ends_the_run,
+};
 use sas_reader::SasFault;
 use sas_task::{Kept, Task};
 use std::alloc::Global;
@@ -297,7 +298,6 @@ fn run_aim<F: Folder, C: Clock>(
     ensures left { IfOk result (λ left. IsLeftSo (run_of task.now aim start)
         (many_test aim.chosen) (C.last clock.old)
         (C.last clock.new) (C.answers clock.old) (C.answers clock.new) left) }
-    ensures task { IsWellFormed task.now }
 {
     let Aim { chosen, bound } = aim;
     let many = chosen.is_many();
@@ -334,6 +334,7 @@ fn run_on_task<F: Folder, C: Clock>(
         × AsksAfter start (C.last clock.new)
         (C.answers clock.old) (C.answers clock.new) turns) }
 {
+    a_run_with_room_is_complete();
     let many = aim.chosen.is_many();
     match run_aim(alloc, folder, clock, base, &task, aim, start) {
         Ok(left) => Ok(report_of(task, many, start, left)),

@@ -1,4 +1,4 @@
-use Rattle.std.proofs.Common.{◌≡◌, refl, [], ◌∷◌}
+use Rattle.std.proofs.Common.{refl, [], ◌∷◌}
 use Rattle.run_report.specs.Searches.{Run}
 use Rattle.driver_run.specs.declared.running.Left.{Left}
 use Rattle.driver_run.specs.Ending.{report_by}
