@@ -120,7 +120,6 @@ pub record IsStopped (run : Run) (began : ℕ) (progress : Progress) : Type 0 wh
 -- The turn has ended, the only one of the run.
 pub record HasRun (run : Run) (progress : Progress) (turn : ToldTurn) : Type 0 where
   pub shares : run.setting.shares ≡ 1 ∷ []
-  pub single : run.setting.single ≡ false
   pub rounds : run.setting.rounds ≡ false
   pub under_way : IsUnderWay run progress.core (turns_ended turn) progress.kept.items progress.candidates.items progress.ends.items
 

@@ -71,7 +71,6 @@ fn end(progress: &mut Progress, trail: Trail, outcome: Outcome)
     requires room { vec_len progress.old.ends < vec_capacity progress.old.ends }
     requires first { progress.old.ends.items ≡ [] }
     requires shares { progress.old.core.setting.shares ≡ 1 ∷ [] }
-    requires single { progress.old.core.setting.single ≡ false }
     requires rounds { progress.old.core.setting.rounds ≡ false }
     ensures setting { progress.new.core.setting ≡ progress.old.core.setting }
     ensures kept { progress.new.kept ≡ progress.old.kept }

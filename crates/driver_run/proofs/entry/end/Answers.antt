@@ -18,4 +18,4 @@ returns-clause-ended c parts config is =
     let ended = c.a_turn_ends.ensures run c.args.progress.now.core c.step.new.self [] turn c.args.progress.now.kept.items c.args.progress.now.candidates.items [] is.under_way c.step.ensures.setting stands
     (record { to = is.to; went = is.came.went; ends = is.ends; phases = is.phases; pops = is.pops; own = is.came.own }) in
     let ends : c.push_reserved.new.self.items ≡ turn.end ∷ [] = c.push_reserved.ensures.items ∙ ap (λ (es : EntryEnd). c.args.progress.now.ends.items ++ es ∷ []) c.into_end.ensures ∙ ap (λ front. front ++ turn.end ∷ []) c.requires.first in
-    (turn, refl, refl, record { shares = c.requires.shares; single = c.requires.single; rounds = c.requires.rounds; under_way = rw ends ended })
+    (turn, refl, refl, record { shares = c.requires.shares; rounds = c.requires.rounds; under_way = rw ends ended })
