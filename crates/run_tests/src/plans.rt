@@ -9,11 +9,11 @@ use std::test::Fail;
 use test_tasks::{at_the_goal, door, no_operator, rivals, swap, three_places, two_layers};
 
 /// What the run on a task tells that must leave these plans.
-fn on_task(
+fn on_task<'a>(
     alloc: Global,
     task: &str,
-    first: Option<&str>,
-    second: Option<&str>,
+    first: Option<&'a str>,
+    second: Option<&'a str>,
 ) -> Result<Told, NoMemory> {
     tell_of(alloc, &["t.sas"], task, &plans(None, first, second))
 }
