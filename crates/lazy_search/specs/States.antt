@@ -6,7 +6,15 @@ use Rattle.packed_state.specs.Packing as packing
 use Rattle.packed_state.specs.Packing.{packed}
 use Rattle.state_step.specs.Stepper as stepper
 use Rattle.succ_gen.specs.Trees as trees
+use Rattle.lazy_search.specs.declared.states.Room.{Room}
 use Rattle.lazy_search.specs.declared.states.States.{States}
+
+-- Room for a state of so many words, for the values of two states and for all operators.
+pub record HasRoom (room : Room) (parts : Parts) (words : ℕ) : Type 0 where
+  pub words_long : length room.words.items ≡ words
+  pub here : length room.here.items ≡ length parts.variables
+  pub next : length room.next.items ≡ length parts.variables
+  pub applicable : length parts.operators ≤ vec_capacity room.applicable
 
 -- They were made for the task, and have room for its states and operators.
 pub record AreFor (states : States) (parts : Parts) : Type 0 where

@@ -1,6 +1,4 @@
 // What a search keeps between its turns.
-ghost use Rattle.std.specs.Prelude.{◌≡◌};
-
 use crate::entries::Chosen;
 use crate::paths::Came;
 use crate::rows::Row;
@@ -58,10 +56,8 @@ pub(crate) enum Turned {
 }
 
 impl Machine {
-    /// The log.
-    pub(crate) fn into_log(self) -> Log
-        ensures { result ≡ self.log }
-    {
-        self.log
+    /// Gives all up.
+    pub(crate) fn release(self) {
+        self.states.release();
     }
 }

@@ -26,6 +26,7 @@ use lama_num::{NoMemory, Seq};
 use sas_task::Task;
 use search_log::{LimitHit, Log, Setting, Space};
 use std::alloc::Global;
+use std::mem::replace;
 
 /// Why a search halts.
 #[derive(Clone, Copy, Debug, PartialEq, Eq)]
@@ -252,27 +253,57 @@ fn answer(setting: &Setting, found: Found, log: Log) -> SearchEnd
     }
 }
 
-/// The answer of a machine that halts.
+/// The answer of a machine that halts, with its log.
 fn end_of(
     alloc: Global,
     task: &Task,
     setting: &Setting,
     shape: Shape,
-    machine: Machine,
+    machine: &mut Machine,
     halt: Halt,
 ) -> Result<SearchEnd, NoMemory>
     requires phase { IsPhase (phase_of task.now setting.now shape) }
-    requires rests { Rests (phase_of task.now setting.now shape) machine
-        (past_in (phase_of task.now setting.now shape) machine) }
+    requires rests { Rests (phase_of task.now setting.now shape) machine.old
+        (past_in (phase_of task.now setting.now shape) machine.old) }
     requires ends { HaltEnds (phase_of task.now setting.now shape)
-        (past_in (phase_of task.now setting.now shape) machine) halt }
+        (past_in (phase_of task.now setting.now shape) machine.old) halt }
     requires dead { TellsDead (phase_of task.now setting.now shape)
-        (past_in (phase_of task.now setting.now shape) machine) }
-    ensures ends { IfOk result (EndsSo (phase_of task.now setting.now shape) machine.log) }
+        (past_in (phase_of task.now setting.now shape) machine.old) }
+    ensures ends { IfOk result (EndsSo (phase_of task.now setting.now shape) machine.old.log) }
     ensures moment { IfOk result (λ end. moment_by end ≡ moment_at halt) }
 {
-    let found = found_by(alloc, task, setting, shape, &machine, halt)?;
-    Ok(answer(setting, found, machine.into_log()))
+    let found = found_by(alloc, task, setting, shape, machine, halt)?;
+    let log = replace(&mut machine.log, Log::new(alloc));
+    Ok(answer(setting, found, log))
+}
+
+/// Searches with a blank machine, whose log the answer has.
+fn search_with<G: Guide, C: Clock>(
+    alloc: Global,
+    task: &Task,
+    setting: &Setting,
+    shape: Shape,
+    guide: &mut G,
+    clock: &mut C,
+    machine: &mut Machine,
+) -> Result<SearchEnd, NoMemory>
+    requires phase { IsPhase (phase_of task.now setting.now shape) }
+    requires blank { IsBlank task.now setting.now shape machine.old }
+    requires same_task { G.is_for guide.old task.now }
+    ensures same_task { OnOk result (G.is_for guide.new task.now) }
+    ensures end { IfOk result
+        (EndHolds (phase_of task.now setting.now shape) (G.fits guide.old task.now)) }
+    ensures clock { (before : Option (List ℕ)) →
+        IsAnswered (phase_of task.now setting.now shape) [] None before (C.answers clock.old) →
+        IfOk result
+        (ClockHolds (phase_of task.now setting.now shape) before (C.answers clock.new)) }
+    ensures moment { IfOk result
+        (λ end. IsBetween (C.last clock.old) (C.last clock.new) (moment_by end)) }
+    ensures later { C.last clock.old ≤ C.last clock.new }
+    ensures tells { TellsOn (C.answers clock.old) (C.answers clock.new) }
+{
+    let halt = go(alloc, task, setting, shape, guide, clock, machine)?;
+    end_of(alloc, task, setting, shape, machine, halt)
 }
 
 /// Which lists there are by a guide, for a task, which is well formed.
@@ -320,8 +351,9 @@ fn try_search<G: Guide, C: Clock>(
         });
     }
     let mut machine = Machine::blank(alloc, task, setting, shape)?;
-    let halt = go(alloc, task, setting, shape, guide, clock, &mut machine)?;
-    end_of(alloc, task, setting, shape, machine, halt)
+    let end = search_with(alloc, task, setting, shape, guide, clock, &mut machine);
+    machine.release();
+    end
 }
 
 /// Searches a task from its initial state, guided by `guide`.

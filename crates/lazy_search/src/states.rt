@@ -1,12 +1,13 @@
 // The states of a search: packed by number, and the two that a turn works on.
 ghost use Rattle.std.specs.Prelude.{◌≡◌, ◌<◌, ◌≤◌, ℕ, List, [], length, slice_get, Some};
-ghost use Rattle.std.specs.Prelude.{IfOk, vec_capacity};
+ghost use Rattle.std.specs.Prelude.{IfOk, OnOk};
 ghost use Rattle.sas_task.specs.States.{IsState, step};
 ghost use Rattle.sas_task.specs.Runs.{start_of, is_goal as goal_holds};
-ghost use Rattle.packed_state.specs.Packing.{packed};
+ghost use Rattle.packed_state.specs.Packing.{packed, IsFor as IsLayoutFor};
 ghost use Rattle.state_registry.specs.Interning.{Interns};
-ghost use Rattle.succ_gen.specs.Trees.{applicable as operators_in};
-ghost use Rattle.lazy_search.specs.States.{AreFor, Opens, IsKept};
+ghost use Rattle.state_step.specs.Stepper.{IsFor as IsStepperFor};
+ghost use Rattle.succ_gen.specs.Trees.{applicable as operators_in, IsFor as IsTreeFor};
+ghost use Rattle.lazy_search.specs.States.{AreFor, HasRoom, Opens, IsKept};
 
 use lama_num::NoMemory;
 use packed_state::Layout;
@@ -38,20 +39,76 @@ struct Room {
     applicable: Vec<u32>,
 }
 
-fn room_for(alloc: Global, task: &Task, words: usize) -> Result<Room, NoMemory>
-    ensures words { IfOk result (λ room. length room.words.items ≡ words) }
-    ensures here { IfOk result (λ room. length room.here.items ≡ length task.now.variables) }
-    ensures next { IfOk result (λ room. length room.next.items ≡ length task.now.variables) }
-    ensures applicable { IfOk result
-        (λ room. length task.now.operators ≤ vec_capacity room.applicable) }
-{
-    let variables = task.parts().variables.len();
-    Ok(Room {
-        words: vec![in alloc; 0; words]?,
-        here: vec![in alloc; 0; variables]?,
-        next: vec![in alloc; 0; variables]?,
-        applicable: Vec::with_capacity(alloc, task.parts().operators.len())?,
-    })
+impl Room {
+    /// Takes room for so many words, and for the values and operators of a task.
+    fn take(&mut self, task: &Task, words: usize) -> Result<(), NoMemory>
+        requires words { self.old.words.items ≡ [] }
+        requires here { self.old.here.items ≡ [] }
+        requires next { self.old.next.items ≡ [] }
+        requires applicable { self.old.applicable.items ≡ [] }
+        ensures { OnOk result (HasRoom self.new task.now words) }
+    {
+        let variables = task.parts().variables.len();
+        self.words.resize(words, 0)?;
+        self.here.resize(variables, 0)?;
+        self.next.resize(variables, 0)?;
+        self.applicable.reserve(task.parts().operators.len())?;
+        Ok(())
+    }
+
+    fn new(alloc: Global, task: &Task, words: usize) -> Result<Room, NoMemory>
+        ensures { IfOk result (λ room. HasRoom room task.now words) }
+    {
+        let mut room = Room {
+            words: Vec::new(alloc),
+            here: Vec::new(alloc),
+            next: Vec::new(alloc),
+            applicable: Vec::new(alloc),
+        };
+        match room.take(task, words) {
+            Ok(()) => Ok(room),
+            Err(e) => Err(e),
+        }
+    }
+}
+
+/// What leads from a state to others.
+#[derive(Drop)]
+struct Moves {
+    stepper: Stepper,
+    tree: Tree,
+}
+
+impl Moves {
+    fn new(alloc: Global, task: &Task) -> Result<Moves, NoMemory>
+        ensures stepper { IfOk result (λ moves. IsStepperFor moves.stepper task.now) }
+        ensures tree { IfOk result (λ moves. IsTreeFor moves.tree task.now) }
+    {
+        let stepper = Stepper::new(alloc, task)?;
+        let tree = Tree::new(alloc, task)?;
+        Ok(Moves { stepper, tree })
+    }
+}
+
+/// The visited states, and the room of a turn.
+#[derive(Drop)]
+struct Kept {
+    registry: Registry,
+    room: Room,
+}
+
+impl Kept {
+    fn new(alloc: Global, task: &Task, most: u32) -> Result<Kept, NoMemory>
+        ensures layout { IfOk result (λ kept. IsLayoutFor kept.registry.layout task.now) }
+        ensures room { IfOk result (λ kept. HasRoom kept.room task.now kept.registry.layout.words) }
+        ensures states { IfOk result (λ kept. kept.registry.states ≡ []) }
+        ensures most { IfOk result (λ kept. kept.registry.most ≡ most) }
+    {
+        let layout = Layout::new(alloc, task)?;
+        let room = Room::new(alloc, task, layout.words())?;
+        let registry = Registry::new(alloc, layout, most)?;
+        Ok(Kept { registry, room })
+    }
 }
 
 impl States {
@@ -61,11 +118,8 @@ impl States {
         ensures states { IfOk result (λ states. states.registry.states ≡ []) }
         ensures most { IfOk result (λ states. states.registry.most ≡ most) }
     {
-        let layout = Layout::new(alloc, task)?;
-        let stepper = Stepper::new(alloc, task)?;
-        let tree = Tree::new(alloc, task)?;
-        let room = room_for(alloc, task, layout.words())?;
-        let registry = Registry::new(alloc, layout, most)?;
+        let Moves { stepper, tree } = Moves::new(alloc, task)?;
+        let Kept { registry, room } = Kept::new(alloc, task, most)?;
         Ok(States {
             registry,
             stepper,
@@ -76,6 +130,9 @@ impl States {
             applicable: room.applicable,
         })
     }
+
+    /// Gives all up.
+    pub(crate) fn release(self) {}
 
     /// Reaches the initial state.
     pub(crate) fn start(&mut self, task: &Task)
