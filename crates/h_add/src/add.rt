@@ -8,7 +8,7 @@ ghost use Rattle.sas_task.specs.States.{IsState};
 ghost use Rattle.sas_task.specs.WellFormed.{is_fact};
 ghost use Rattle.sas_task.specs.declared.contents.Fact.{Fact as TheFact};
 ghost use Rattle.relaxed_task.specs.AdditiveCosts.{IsAdditiveCost, IsGoalValue};
-ghost use Rattle.relaxed_task.specs.Numbers.{numbers_of};
+ghost use Rattle.relaxed_task.specs.Numbers.{number_of, numbers_of};
 ghost use Rattle.h_add.specs.ByNumber.{start_facts};
 ghost use Rattle.relaxed_task.specs.Estimates.{is_finite};
 ghost use Rattle.relaxed_task.specs.Reached.{IsDead, IsReached};
@@ -149,6 +149,12 @@ impl Add {
     pub fn costs(&self) -> &[u32]
         ensures costs { result.now ≡ self.now.costs }
         ensures long { length result.now ≡ self.now.relaxed.facts }
+        ensures reached { (parts : Parts) (kind : TheKind) (state : List ℕ)
+            (without : List TheFact) → IsRelaxed parts kind self.now.relaxed →
+            IsEvaluated parts kind state without self.now.costs →
+            (fact : TheFact) → IsTrue (is_fact parts.variables fact) →
+            (IsTrue (is_finite (value_at result.now (number_of parts.variables fact))) ↔
+            IsReached parts state without fact) }
     {
         self.settling.costs()
     }

@@ -20,7 +20,9 @@ use Rattle.relaxed_task.specs.Reached.{IsReached, is_reached_in, is_given}
 use Rattle.sas_task.specs.Facts.{same_fact}
 use Rattle.sas_task.specs.Runs.{start_of}
 use Rattle.lm_backchain.specs.Backchain.{has, Among, GivesGreedy, shared, one_of, IsNode, back, node_of}
-use Rattle.lm_backchain.specs.Growth.{Takes, IsGreedy, Works, IsTakenBack, IsTakenBackAt, number_in}
+use Rattle.lm_backchain.specs.Growth.{Takes, IsGreedy, Works, IsTakenBack, IsTakenBackAt, StayNodes, number_in}
+use Rattle.lm_backchain.specs.Singles.{AreKept, IsKept, Keeps}
+use Rattle.lm_backchain.specs.declared.singles.Single.{Single}
 use Rattle.lm_backchain.proofs.FactLists.{has_self, same_self}
 use Rattle.lm_backchain.proofs.Listing.{push_cases, front_get, among_cases, among_one, among_none, read_at, take_more_at}
 
@@ -294,8 +296,33 @@ kept_set parts old mid a i x e at = ap (λ ss. slice_get ss i) e.sets ∙ front_
 pub stays_at : (old new : Content) (i : ℕ) (x : List Fact) → new.nodes ≡ old.nodes → slice_get (sets_of old.nodes) i ≡ Some x → slice_get (sets_of new.nodes) i ≡ Some x
 stays_at old new i x same at = ap (λ (ns : List Node). slice_get (map facts_of ns) i) same ∙ at
 
-pub still_back : (parts : Parts) (old new : Content) (place : ℕ) (lists : List (List Fact)) (lt : place < length old.nodes) → IsTakenBackAt parts old place lists → slice_get (sets_of new.nodes) place ≡ Some (facts_within old place lt).0 → IsTakenBackAt parts new place lists
-still_back parts old new place lists lt was at b own = was b ((facts_within old place lt).1 ∙ (sym at ∙ own))
+-- a node that was there is the one that is
+pub stayed : (old new : Content) (place : ℕ) (b : List Fact) → StayNodes old new → place < length old.nodes → slice_get (sets_of new.nodes) place ≡ Some b → slice_get (sets_of old.nodes) place ≡ Some b
+stayed old new place b stay lt own = let was = facts_within old place lt in was.1 ∙ (sym (stay place was.0 was.1) ∙ own)
+
+pub still_within : (old new : Content) (place : ℕ) → StayNodes old new → place < length old.nodes → place < length new.nodes
+still_within old new place stay lt = let was = facts_within old place lt in set_within new place was.0 (stay place was.0 was.1)
+
+-- nothing is kept yet
+pub none_kept : (parts : Parts) (graph : Content) (singles : List (Option Single)) → singles ≡ [] → AreKept parts graph singles
+none_kept parts graph singles none = record { each = λ i b s at there. absurd (none-some s (ap (λ ss. slice_get ss i) (sym none) ∙ there)) }
+
+-- what is kept of one node more
+pub kept_more : (parts : Parts) (old new : Content) (place : ℕ) (node : List Fact) (singles more : List (Option Single)) → length singles ≡ place → slice_get (sets_of old.nodes) place ≡ Some node → StayNodes old new →
+    AreKept parts old singles → Keeps parts node singles more → AreKept parts new more
+kept_more parts old new place node singles more long at stay kept k = record { each = λ i b s own there. by i b s own (push_cases singles k.single i s (ap (λ ss. slice_get ss i) (sym k.singles) ∙ there)) }
+  where
+    lt : place < length old.nodes
+    lt = set_within old place node at
+
+    by : (i : ℕ) (b : List Fact) (s : Option Single) → slice_get (sets_of new.nodes) i ≡ Some b → (slice_get singles i ≡ Some s) ⊎ ((k.single ≡ s) × (i ≡ length singles)) → IsKept parts b s
+    by i b s own (inl before) =
+        let less = slice_get_within singles i s before in
+        kept.each i b s (stayed old new i b stay (omega (arith, less, long, lt)) own) before
+    by i b s own (inr last) =
+        let here : i ≡ place = last.1 ∙ long in
+        let same : node ≡ b = same_Some _ _ (sym at ∙ stayed old new place b stay lt (ap (slice_get (sets_of new.nodes)) (sym here) ∙ own)) in
+        subst (IsKept parts b) last.0 (subst (λ x. IsKept parts x k.single) same k.kept)
 
 -- one of the facts that a node is taken back to, at a place of their list
 module _ (parts : Parts) (old : Content) (place : ℕ) (lists : List (List Fact)) (k : ℕ) (a : List Fact) (lt : place < length old.nodes) (back_to : IsTakenBackAt parts old place lists) (at : slice_get lists k ≡ Some a) where
@@ -309,8 +336,11 @@ module _ (parts : Parts) (old : Content) (place : ℕ) (lists : List (List Fact)
     this_works : Works parts mid place (take k lists)
     this_works = works_extended parts old mid place (take k lists) a works lt this_extends (back (works.found (facts_within old place lt).0 (record { place = place; at = (facts_within old place lt).1 })) this_gives)
 
+    pub this_stays : StayNodes old mid
+    this_stays i x there = kept_set parts old mid a i x this_extends there
+
     pub this_place : slice_get (sets_of mid.nodes) place ≡ Some (facts_within old place lt).0
-    this_place = kept_set parts old mid a place (facts_within old place lt).0 this_extends (facts_within old place lt).1
+    this_place = this_stays place (facts_within old place lt).0 (facts_within old place lt).1
 
     pub this_at : (p : ℕ) → number_in added ≡ Some p → slice_get (sets_of mid.nodes) p ≡ Some a
     this_at p is = added_at parts old mid a added p works.nodes_are adds is

@@ -1,10 +1,9 @@
 -- The orders become the strongest, and the graph is that of backchaining.
-use Rattle.std.proofs.Common.{◌≡◌, ◌≢◌, ◌∙◌, sym, ap, refl, subst, ℕ, zero, suc, ◌+◌, ◌<◌, ◌≤◌, List, [], ◌∷◌, length, map, Bool, true, not, ◌↔◌, Option, Some, None, slice_get, inl, inr, ◌⊎◌, arith}
+use Rattle.std.proofs.Common.{◌≡◌, ◌≢◌, ◌∙◌, sym, ap, refl, subst, ℕ, ◌+◌, ◌<◌, ◌≤◌, List, [], ◌∷◌, length, map, Bool, true, not, ◌↔◌, Option, Some, None, slice_get, inl, inr, ◌⊎◌, arith}
 use Rattle.std.proofs.lemmas.Bool.{cases_eq, both_ways, not-true, not_from_false, false_from_ne_true}
 use Rattle.std.proofs.lemmas.List.{length-map}
 use Rattle.std.proofs.lemmas.Option.{same_Some, none-some, slice_get_within}
 use Rattle.sas_task.specs.Runs.{start_of}
-use Rattle.sas_task.specs.WellFormed.{IsWellFormed}
 use Rattle.sas_task.specs.declared.contents.Fact.{Fact}
 use Rattle.sas_task.specs.declared.contents.Parts.{Parts}
 use Rattle.relaxed_task.specs.Reached.{IsReached}
@@ -12,14 +11,16 @@ use Rattle.lm_graph.specs.declared.orders.Order.{Order}
 use Rattle.lm_graph.specs.declared.orders.Order.TheVariants.{Natural, GreedyNecessary}
 use Rattle.lm_graph.specs.declared.nodes.Node.{Node}
 use Rattle.lm_graph.specs.Graphs.{Content, kind_of, most_nodes, IsGraph, PutsOrder}
-use Rattle.lm_graph.specs.Nodes.{sets_of}
+use Rattle.lm_graph.specs.Nodes.{sets_of, AreDistinct}
 use Rattle.lm_graph.specs.Orders.{stronger}
-use Rattle.lm_backchain.specs.Backchain.{Among, Backchain, GivesGreedy, GivesNatural, unreached, IsNode, goal, back, IsStrongest, node_of}
+use Rattle.lm_backchain.specs.Backchain.{Among, Backchain, GivesGreedy, GivesNatural, unreached, IsNode, goal, back, IsStrongest, is_open, node_of}
 use Rattle.lm_backchain.specs.Growth.{Works, IsGreedyKind}
-use Rattle.lm_backchain.specs.Strengths.{IsEarlier, IsStrongestAt, IsUpTo, AreTaskFacts, IsOpenSingle, KnowsAt}
-use Rattle.h_add.specs.Values.{Evaluator}
+use Rattle.lm_backchain.specs.Strengths.{IsEarlier, IsStrongestAt, IsUpTo}
+use Rattle.lm_backchain.specs.Singles.{IsOpenSingle, IsSingle, IsKept, IsSingleAt, AreKept}
+use Rattle.lm_backchain.specs.declared.singles.Single.{Single}
+use Rattle.relaxed_task.specs.Numbers.{number_of}
+use Rattle.bit_rows.specs.Rows.{has}
 use Rattle.lm_backchain.proofs.GoalFacts.{goal_among}
-use Rattle.lm_backchain.proofs.Sound.{node_facts}
 
 abbrev facts_of : Node → List Fact
 facts_of n = n.facts
@@ -28,7 +29,7 @@ within : (graph : Content) (j : ℕ) (b : List Fact) → slice_get (sets_of grap
 within graph j b at = let lt = slice_get_within (sets_of graph.nodes) j b at in let l = length-map graph.nodes facts_of in omega (arith, lt, l)
 
 -- before the third rule
-pub up_to_none : (parts : Parts) (graph : Content) → Works parts graph (length graph.nodes) [] → IsUpTo parts graph 0 0
+up_to_none : (parts : Parts) (graph : Content) → Works parts graph (length graph.nodes) [] → IsUpTo parts graph 0 0
 up_to_none parts graph w = record {
   earlier = λ i j h. elim h [ inl lt ↦ absurd (omega (arith, lt)) | inr p ↦ let lt = p.1 in absurd (omega (arith, lt)) ];
   others = λ i j h. record { kind = λ a b at_i at_j. by i j a b at_i at_j (kind_of graph i j) refl };
@@ -127,7 +128,7 @@ row_next parts graph before n all u = record {
 
 -- no natural order comes from a node that isn't one fact, or isn't open
 from_single : (parts : Parts) (a b : List Fact) → GivesNatural parts a b → IsOpenSingle parts a
-from_single parts a b (unreached free other ne never) = record { one = refl; are_open = free }
+from_single parts a b (unreached {b = x} free other ne never) = record { fact = x; one = refl; are_open = free }
 
 pub row_without : (parts : Parts) (graph : Content) (before : ℕ) (node : List Fact) → slice_get (sets_of graph.nodes) before ≡ Some node → (IsOpenSingle parts node → ⊥) → IsUpTo parts graph before 0 → IsUpTo parts graph (before + 1) 0
 row_without parts graph before node at closed u = record {
@@ -152,50 +153,56 @@ row_without parts graph before node at closed u = record {
       | inr ne ↦ (u.earlier i j (inl (omega (arith, less, ne)))).kind a b at_i at_j
     ]
 
--- what the third rule gives, by its test
+-- nor does one go to such a node
+to_single : (parts : Parts) (a b : List Fact) → GivesNatural parts a b → IsOpenSingle parts b
+to_single parts a b (unreached {c = y} free other ne never) = record { fact = y; one = refl; are_open = other }
 
-pub late_from : (parts : Parts) (node facts : List Fact) (f : Fact) → IsOpenSingle parts node → IsOpenSingle parts facts → node ≢ facts → slice_get facts 0 ≡ Some f → (IsReached parts (start_of parts) node f → ⊥) → GivesNatural parts node facts
-late_from parts [] facts f s t ne at never = let e = s.one in absurd (omega (arith, e))
-late_from parts (x ∷ []) [] f s t ne at never = absurd (none-some f at)
-late_from parts (x ∷ []) (y ∷ []) f s t ne at never =
-    let same : y ≡ f = same_Some y f at in
-    unreached s.are_open t.are_open (λ e. ne (ap (λ z. z ∷ []) e)) (λ r. never (subst (IsReached parts (start_of parts) (x ∷ [])) same r))
-late_from parts (x ∷ []) (y ∷ z ∷ facts) f s t ne at never = let e = t.one in absurd (omega (arith, e))
-late_from parts (x ∷ w ∷ node) facts f s t ne at never = let e = s.one in absurd (omega (arith, e))
+pub none_to : (parts : Parts) (a b : List Fact) → (IsOpenSingle parts b → ⊥) → GivesNatural parts a b → ⊥
+none_to parts a b none g = none (to_single parts a b g)
 
-pub late_single : (parts : Parts) (a b : List Fact) → GivesNatural parts a b → IsOpenSingle parts b
-late_single parts a b (unreached free other ne never) = record { one = refl; are_open = other }
+-- what the third rule gives, by the bit of one node's fact in the row of another
 
-pub late_not : (parts : Parts) (node facts : List Fact) (f : Fact) → GivesNatural parts node facts → slice_get facts 0 ≡ Some f → IsReached parts (start_of parts) node f → ⊥
-late_not parts node facts f (unreached {b = x} {c = y} free other ne never) at r =
-    let same : y ≡ f = same_Some y f at in
-    never (subst (IsReached parts (start_of parts) (x ∷ [])) (sym same) r)
+late_from : (parts : Parts) (a b : List Fact) → (s : IsOpenSingle parts a) → (t : IsOpenSingle parts b) → a ≢ b → (IsReached parts (start_of parts) a t.fact → ⊥) → GivesNatural parts a b
+late_from parts a b s t ne never = subst (λ x. GivesNatural parts x b) (sym s.one) (subst (GivesNatural parts (s.fact ∷ [])) (sym t.one) (unreached
+    (subst (λ x. is_open parts x ≡ true) s.one s.are_open)
+    (subst (λ x. is_open parts x ≡ true) t.one t.are_open)
+    (λ e. ne (s.one ∙ (ap (λ z. z ∷ []) e ∙ sym t.one)))
+    (subst (λ x. IsReached parts (start_of parts) x t.fact → ⊥) s.one never)))
 
-pub late_test : (parts : Parts) (node facts : List Fact) (f : Fact) (b : Bool) → IsOpenSingle parts node → IsOpenSingle parts facts → node ≢ facts → slice_get facts 0 ≡ Some f → (b ≡ true) ↔ IsReached parts (start_of parts) node f →
-    (not b ≡ true) ↔ GivesNatural parts node facts
-late_test parts node facts f b s t ne at is = (
-  λ n. late_from parts node facts f s t ne at (λ r. both_ways b (not-true b n) (is.1 r)),
-  λ g. not_from_false b (false_from_ne_true b (λ yes. late_not parts node facts f g at (is.0 yes))),
+late_not : (parts : Parts) (a b : List Fact) (f : Fact) → GivesNatural parts a b → b ≡ f ∷ [] → IsReached parts (start_of parts) a f → ⊥
+late_not parts a b f (unreached {b = x} {c = y} free other ne never) one r = never (subst (IsReached parts (start_of parts) (x ∷ [])) (sym (same one)) r)
+  where
+    same : y ∷ [] ≡ f ∷ [] → y ≡ f
+    same e = cc
+
+pub late_test : (parts : Parts) (a b : List Fact) (s t : Single) → IsSingle parts a s → IsSingle parts b t → a ≢ b → (not (has s.reached t.number) ≡ true) ↔ GivesNatural parts a b
+late_test parts a b s t one other ne = (
+  λ n. late_from parts a b one.are_one other.are_one ne (λ r. both_ways _ (not-true _ n) (ap (has s.reached) other.number ∙ is.1 r)),
+  λ g. not_from_false _ (false_from_ne_true _ (λ yes. late_not parts a b other.are_one.fact g other.are_one.one (is.0 (sym (ap (has s.reached) other.number) ∙ yes)))),
 )
+  where
+    is : (has s.reached (number_of parts.variables other.are_one.fact) ≡ true) ↔ IsReached parts (start_of parts) a other.are_one.fact
+    is = one.row.each other.are_one.fact other.there
 
-pub set_at : (nodes : List Node) (place : ℕ) (node : Node) → slice_get nodes place ≡ Some node → slice_get (sets_of nodes) place ≡ Some node.facts
-set_at [] place node at = absurd (none-some node at)
-set_at (n ∷ nodes) zero node at = ap (λ (m : Node). Some m.facts) (same_Some n node at)
-set_at (n ∷ nodes) (suc place) node at = set_at nodes place node at
+other_node : (graph : Content) (before after : ℕ) (a b : List Fact) → AreDistinct graph.nodes → (before ≡ after → ⊥) → slice_get (sets_of graph.nodes) before ≡ Some a → slice_get (sets_of graph.nodes) after ≡ Some b → a ≢ b
+other_node graph before after a b distinct ne at_a at_b e = ne (distinct.each before after b (at_a ∙ ap (λ x. Some x) e) at_b)
 
-pub other_node : (parts : Parts) (graph : Content) (before after : ℕ) (a b : List Fact) → IsGraph graph → (before ≡ after → ⊥) → slice_get (sets_of graph.nodes) before ≡ Some a → slice_get (sets_of graph.nodes) after ≡ Some b → a ≢ b
-other_node parts graph before after a b g ne at_a at_b e = ne (g.distinct.each before after b (at_a ∙ ap (λ x. Some x) e) at_b)
+-- the test of a pair
+pub pair_test : (parts : Parts) (graph : Content) (before after : ℕ) (single : Single) (singles : List (Option Single)) (s : Option Single) (late : Bool) → AreDistinct graph.nodes → (before ≡ after → ⊥) →
+    IsSingleAt parts graph before single → AreKept parts graph singles → slice_get singles after ≡ Some s → ((p : Parts) (a b : List Fact) → IsSingle p a single → IsKept p b s → a ≢ b → (late ≡ true) ↔ GivesNatural p a b) →
+    (a b : List Fact) → slice_get (sets_of graph.nodes) before ≡ Some a → slice_get (sets_of graph.nodes) after ≡ Some b → (late ≡ true) ↔ GivesNatural parts a b
+pair_test parts graph before after single singles s late distinct ne one kept there test a b at_a at_b =
+    let same : one.node ≡ a = same_Some _ _ (sym one.at ∙ at_a) in
+    test parts a b (subst (λ x. IsSingle parts x single) same one.is) (kept.each after b s at_b there) (other_node graph before after a b distinct ne at_a at_b)
 
-pub facts_stay : (parts : Parts) (old new : Content) → new.nodes ≡ old.nodes → AreTaskFacts parts old → AreTaskFacts parts new
-facts_stay parts old new same f = record { each = λ facts m. f.each facts (record { place = m.place; at = ap (λ (ns : List Node). slice_get (map facts_of ns) m.place) (sym same) ∙ m.at }) }
+-- what is kept of nodes that stay
+pub kept_stay : (parts : Parts) (old new : Content) (singles : List (Option Single)) → new.nodes ≡ old.nodes → AreKept parts old singles → AreKept parts new singles
+kept_stay parts old new singles same k = record { each = λ place node single at. k.each place node single (ap (λ (ns : List Node). slice_get (map facts_of ns) place) (sym same) ∙ at) }
 
-pub knows_stay : (parts : Parts) (old new : Content) (place : ℕ) (add : Evaluator) → new.nodes ≡ old.nodes → KnowsAt parts old place add → KnowsAt parts new place add
-knows_stay parts old new place add same k = record { node = k.node; at = ap (λ (ns : List Node). slice_get (map facts_of ns) place) same ∙ k.at; single = k.single; knows = k.knows }
+pub single_stays : (parts : Parts) (old new : Content) (place : ℕ) (single : Single) → new.nodes ≡ old.nodes → IsSingleAt parts old place single → IsSingleAt parts new place single
+single_stays parts old new place single same k = record { node = k.node; at = ap (λ (ns : List Node). slice_get (map facts_of ns) place) same ∙ k.at; is = k.is }
 
 -- the graph
-
-pub task_facts : (parts : Parts) (graph : Content) (place : ℕ) (done : List (List Fact)) → IsWellFormed parts → Works parts graph place done → AreTaskFacts parts graph
-task_facts parts graph place done formed w = record { each = λ facts m. node_facts parts facts formed (w.found facts m) }
 
 closed : (parts : Parts) (graph : Content) → Works parts graph (length graph.nodes) [] → length graph.nodes < most_nodes → (a : List Fact) → IsNode parts a → Among (sets_of graph.nodes) a
 closed parts graph w room a (goal {fact = f} own) = goal_among parts graph (length graph.nodes) [] f w room own
@@ -203,7 +210,7 @@ closed parts graph w room a (back {b = b} d g) =
     let m = closed parts graph w room b d in
     (w.taken m.place a b (within graph m.place b m.at) m.at g).there room
 
-pub is_backchain : (parts : Parts) (old new : Content) → Works parts old (length old.nodes) [] → new.nodes ≡ old.nodes → IsUpTo parts new (length new.nodes) 0 → IsGraph old → Backchain parts new
+is_backchain : (parts : Parts) (old new : Content) → Works parts old (length old.nodes) [] → new.nodes ≡ old.nodes → IsUpTo parts new (length new.nodes) 0 → IsGraph old → Backchain parts new
 is_backchain parts old new w nodes u graph = record {
   goals = (w.goals.0, same ∙ w.goals.1);
   nodes_are = nodes ∙ (w.nodes_are ∙ ap (map (node_of parts)) (sym same));
@@ -218,6 +225,10 @@ is_backchain parts old new w nodes u graph = record {
   where
     same : sets_of new.nodes ≡ sets_of old.nodes
     same = ap (map facts_of) nodes
+
+pub with_natural : (parts : Parts) (old new : Content) (singles own : List (Option Single)) → own ≡ singles → Works parts old (length old.nodes) [] → AreKept parts old singles →
+    ((p : Parts) → AreKept p old own → IsUpTo p old 0 0 → IsUpTo p new (length new.nodes) 0) → new.nodes ≡ old.nodes → IsGraph old → Backchain parts new
+with_natural parts old new singles own is w kept orders nodes graph = is_backchain parts old new w nodes (orders parts (subst (AreKept parts old) (sym is) kept) (up_to_none parts old w)) graph
 
 -- what stands behind an order of the graph
 strongest_greedy : (parts : Parts) (a b : List Fact) (o : Option Order) → o ≡ Some GreedyNecessary → IsStrongest parts a b o → GivesGreedy parts a b

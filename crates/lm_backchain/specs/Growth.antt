@@ -20,6 +20,10 @@ pub record IsTakenBack (parts : Parts) (b : List Fact) (lists : List (List Fact)
 abbrev pub IsTakenBackAt : Parts → Content → ℕ → List (List Fact) → Type 0
 IsTakenBackAt parts graph place lists = (b : List Fact) → slice_get (sets_of graph.nodes) place ≡ Some b → IsTakenBack parts b lists
 
+-- each node stays at its place
+abbrev pub StayNodes : Content → Content → Type 0
+StayNodes old new = (i : ℕ) (facts : List Fact) → slice_get (sets_of old.nodes) i ≡ Some facts → slice_get (sets_of new.nodes) i ≡ Some facts
+
 -- the number of a node that was to be added, if it is there
 abbrev pub number_in : Added → Option ℕ
 number_in (New number) = Some number

@@ -5,4 +5,5 @@ pub mod Givers
 pub mod Growth
 pub mod Landmarks
 pub mod Places
+pub mod Singles
 pub mod Strengths

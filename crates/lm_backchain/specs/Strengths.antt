@@ -1,14 +1,10 @@
 -- Orders, as they become the strongest.
-use Rattle.std.specs.Prelude.{◌≡◌, ℕ, ◌<◌, ◌⊎◌, List, true, length, slice_get, Some}
-use Rattle.std.specs.List.{list_all}
-use Rattle.sas_task.specs.WellFormed.{is_fact}
+use Rattle.std.specs.Prelude.{◌≡◌, ℕ, ◌<◌, ◌⊎◌, List, slice_get, Some}
 use Rattle.sas_task.specs.declared.contents.Fact.{Fact}
 use Rattle.sas_task.specs.declared.contents.Parts.{Parts}
 use Rattle.lm_graph.specs.Graphs.{Content, kind_of}
 use Rattle.lm_graph.specs.Nodes.{sets_of}
-use Rattle.lm_backchain.specs.Backchain.{Among, IsStrongest, is_open}
-use Rattle.h_add.specs.Values.{Evaluator}
-use Rattle.lm_backchain.specs.Firsts.{Knows}
+use Rattle.lm_backchain.specs.Backchain.{IsStrongest}
 use Rattle.lm_backchain.specs.Growth.{IsGreedyKind}
 
 -- a pair of places stands before another, by its first and then by its second
@@ -27,19 +23,3 @@ pub record IsStrongestAt (parts : Parts) (graph : Content) (i j : ℕ) : Type 0 
 pub record IsUpTo (parts : Parts) (graph : Content) (before after : ℕ) : Type 0 where
   pub earlier : (i j : ℕ) → IsEarlier i j before after → IsStrongestAt parts graph i j
   pub others : (i j : ℕ) → (IsEarlier i j before after → ⊥) → IsGreedyAt parts graph i j
-
--- all nodes are of facts of the task
-pub record AreTaskFacts (parts : Parts) (graph : Content) : Type 0 where
-  pub each : (facts : List Fact) → Among (sets_of graph.nodes) facts → list_all (is_fact parts.variables) facts ≡ true
-
--- one fact that isn't derived and doesn't hold in the initial state
-pub record IsOpenSingle (parts : Parts) (facts : List Fact) : Type 0 where
-  pub one : length facts ≡ 1
-  pub are_open : is_open parts facts ≡ true
-
--- the initial state was evaluated without the fact of the node at a place, which is one
-pub record KnowsAt (parts : Parts) (graph : Content) (place : ℕ) (add : Evaluator) : Type 0 where
-  pub node : List Fact
-  pub at : slice_get (sets_of graph.nodes) place ≡ Some node
-  pub single : IsOpenSingle parts node
-  pub knows : Knows parts node add

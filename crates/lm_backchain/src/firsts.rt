@@ -20,8 +20,8 @@ use lama_num::{Estimate, NoMemory, Seq};
 use sas_task::{Effect, Fact, Operator, Task};
 use std::alloc::{AllocError, Global};
 
-/// Whether a fact is reached, after the initial state was evaluated without a node's facts.
-pub fn is_reached(add: &Add, fact: Fact) -> bool
+// Whether a fact is reached, after the initial state was evaluated without a node's facts.
+fn is_reached(add: &Add, fact: Fact) -> bool
     ensures { (parts : Parts) (node : List TheFact) → Knows parts node add.now →
         IsTrue (is_fact parts.variables fact) →
         (IsTrue result ↔ IsReached parts (start_of parts) node fact) }

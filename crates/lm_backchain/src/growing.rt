@@ -7,10 +7,12 @@ ghost use Rattle.sas_task.specs.declared.contents.Fact.{Fact as TheFact};
 ghost use Rattle.relaxed_task.specs.Relaxations.{IsRelaxed};
 ghost use Rattle.lm_graph.specs.Nodes.{sets_of};
 ghost use Rattle.lm_backchain.specs.Givers.{FindsGivers};
-ghost use Rattle.lm_backchain.specs.Growth.{HasGoals, IsTakenBackAt, Works, number_in};
+ghost use Rattle.lm_backchain.specs.Growth.{HasGoals, IsTakenBackAt, StayNodes, Works, number_in};
+ghost use Rattle.lm_backchain.specs.Singles.{AreKept};
 
 use crate::givers::Givers;
 use crate::nodes::add_node;
+use crate::singles::Single;
 use crate::taking_back::taken_back;
 use h_add::Add;
 use lama_num::{NoMemory, Seq};
@@ -64,8 +66,7 @@ fn add_before(
     requires at { at < length list.now }
     requires works { Works task.now graph.old place (take at list.now) }
     ensures works { OnOk result (Works task.now graph.new place (take (at + 1) list.now)) }
-    ensures place { OnOk result (place < length graph.new.nodes) }
-    ensures back { OnOk result (IsTakenBackAt task.now graph.new place list.now) }
+    ensures nodes { OnOk result (StayNodes graph.old graph.new) }
 {
     let added = add_node(task, givers, graph, &list[at])?;
     match number_of(added) {
@@ -89,7 +90,7 @@ fn add_list(
     requires back { IsTakenBackAt task.now graph.old place list.now }
     requires works { Works task.now graph.old place [] }
     ensures works { OnOk result (Works task.now graph.new (place + 1) []) }
-    ensures place { OnOk result (place < length graph.new.nodes) }
+    ensures nodes { OnOk result (StayNodes graph.old graph.new) }
 {
     for at in 0..list.len() {
         add_before(task, givers, graph, place, list, at)?;
@@ -97,8 +98,7 @@ fn add_list(
     Ok(())
 }
 
-/// The facts of a node.
-pub fn facts_at(alloc: Global, graph: &Graph, place: u32) -> Result<Vec<Fact>, AllocError>
+fn facts_at(alloc: Global, graph: &Graph, place: u32) -> Result<Vec<Fact>, AllocError>
     requires { place < length graph.now.nodes }
     ensures { IfOk result (λ facts. slice_get (sets_of graph.now.nodes) place ≡ Some facts.items) }
 {
@@ -107,12 +107,12 @@ pub fn facts_at(alloc: Global, graph: &Graph, place: u32) -> Result<Vec<Fact>, A
 }
 
 fn take_back(
-    alloc: Global,
     task: &Task,
     start: &[u32],
     givers: &Givers,
     add: &mut Add,
     graph: &mut Graph,
+    singles: &mut Vec<Option<Single>>,
     place: u32,
 ) -> Result<(), NoMemory>
     requires givers { FindsGivers task.now (length task.now.operators) givers.now.table }
@@ -120,18 +120,22 @@ fn take_back(
     requires start { start.now ≡ start_of task.now }
     requires add { IsRelaxed task.now One add.old.relaxed }
     requires works { Works task.now graph.old place [] }
+    requires long { length singles.old.items ≡ place }
+    requires kept { AreKept task.now graph.old singles.old.items }
     ensures works { OnOk result (Works task.now graph.new (place + 1) []) }
     ensures place { OnOk result (place < length graph.new.nodes) }
+    ensures long { OnOk result (length singles.new.items ≡ place + 1) }
+    ensures kept { OnOk result (AreKept task.now graph.new singles.new.items) }
     ensures add { add.new.relaxed ≡ add.old.relaxed }
 {
-    let node = facts_at(alloc, graph, place)?;
+    let node = facts_at(*singles.allocator(), graph, place)?;
     let ops = givers.of(&node)?;
-    let list = taken_back(alloc, task, start, add, &node, &ops)?;
+    let list = taken_back(task, start, add, &node, &ops, singles)?;
     add_list(task, givers, graph, place, &list)?;
     Ok(())
 }
 
-/// Takes the nodes back in turn, those that come in as well.
+/// Takes the nodes back in turn, those that come in as well; what is kept of each.
 pub fn grow(
     alloc: Global,
     task: &Task,
@@ -139,18 +143,21 @@ pub fn grow(
     givers: &Givers,
     add: &mut Add,
     graph: &mut Graph,
-) -> Result<(), NoMemory>
+) -> Result<Vec<Option<Single>>, NoMemory>
     requires givers { FindsGivers task.now (length task.now.operators) givers.now.table }
     requires start { start.now ≡ start_of task.now }
     requires add { IsRelaxed task.now One add.old.relaxed }
     requires works { Works task.now graph.old 0 [] }
-    ensures works { OnOk result (Works task.now graph.new (length graph.new.nodes) []) }
-    ensures add { add.new.relaxed ≡ add.old.relaxed }
+    ensures works { IfOk result
+        (λ singles. Works task.now graph.new (length graph.new.nodes) []) }
+    ensures long { IfOk result (λ singles. length singles.items ≡ length graph.new.nodes) }
+    ensures kept { IfOk result (λ singles. AreKept task.now graph.new singles.items) }
 {
+    let mut singles = Vec::new(alloc);
     let mut place: u32 = 0;
     'places: while (place as usize) < graph.nodes().len() {
-        take_back(alloc, task, start, givers, add, graph, place)?;
+        take_back(task, start, givers, add, graph, &mut singles, place)?;
         place += 1;
     }
-    Ok(())
+    Ok(singles)
 }

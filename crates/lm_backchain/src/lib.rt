@@ -12,6 +12,7 @@ mod givers;
 mod growing;
 mod natural;
 mod nodes;
+mod singles;
 mod taking_back;
 
 pub use backchaining::landmarks;

@@ -17,9 +17,11 @@ ghost use Rattle.lm_backchain.specs.Asked.{HasSets};
 ghost use Rattle.lm_backchain.specs.Firsts.{AreFirsts};
 ghost use Rattle.lm_backchain.specs.Givers.{AreGivers};
 ghost use Rattle.lm_backchain.specs.Growth.{IsTakenBack};
+ghost use Rattle.lm_backchain.specs.Singles.{Keeps};
 
 use crate::facts::{has, is_less, is_open, put_fact};
 use crate::firsts::firsts_of;
+use crate::singles::{Single, kept_of};
 use h_add::Add;
 use lama_num::{NoMemory, Seq};
 use sas_task::{Fact, Task};
@@ -300,26 +302,32 @@ fn back_from(
 
 /// What a node, with the operators that give one of its facts, is taken back to: single facts,
 /// ascending, and then sets. It is nothing where one of its facts is derived or holds in the
-/// initial state.
+/// initial state. Adds what is kept of the node.
 pub fn taken_back(
-    alloc: Global,
     task: &Task,
     start: &[u32],
     add: &mut Add,
     node: &[Fact],
     ops: &[u32],
+    singles: &mut Vec<Option<Single>>,
 ) -> Result<Vec<Seq<Fact>>, NoMemory>
     requires ops { AreGivers task.now node.now ops.now }
     requires node { IsTrue (list_all (is_fact task.now.variables) node.now) }
     requires start { start.now ≡ start_of task.now }
     requires add { IsRelaxed task.now One add.old.relaxed }
     ensures sets { IfOk result (λ sets. IsTakenBack task.now node.now sets.items) }
+    ensures keeps { IfOk result
+        (λ sets. Keeps task.now node.now singles.old.items singles.new.items) }
     ensures add { add.new.relaxed ≡ add.old.relaxed }
 {
+    let alloc = *singles.allocator();
     if !is_open(task, start, node) {
+        singles.push(None)?;
         return Ok(Vec::new(alloc));
     }
     add.evaluate_without(start, node);
+    let kept = kept_of(alloc, add, node)?;
+    singles.push(kept)?;
     let firsts = firsts_of(alloc, task, add, node, ops)?;
     let sets = back_from(alloc, task, start, &firsts)?;
     Ok(sets)

@@ -1,5 +1,4 @@
 pub mod Afters
-pub mod Bits
 pub mod Loops
 pub mod Ranges
 pub mod Sums

@@ -7,7 +7,8 @@ use Rattle.std.proofs.lemmas.Nat.Bits.{bit_at-zero}
 use Rattle.lm_graph.specs.declared.nodes.Node.{Node}
 use Rattle.lm_graph.specs.Graphs.{Content}
 use Rattle.lm_status.specs.Accepted.{facts_of, opens, accepted_next}
-use Rattle.lm_status.specs.Rows.{has, StandsFor}
+use Rattle.bit_rows.specs.Rows.{has}
+use Rattle.lm_status.specs.Rows.{StandsFor}
 
 -- what was added to a row for the nodes below a number
 pub record AddedBelow (n : ℕ) (row : List ℕ) (before test : ℕ → Bool) : Type 0 where

@@ -2,7 +2,6 @@
 #![tactic(auto)]
 
 mod making;
-mod rows;
 mod status;
 mod table;
 

@@ -5,17 +5,18 @@ ghost use Rattle.std.specs.Prelude.{vec_capacity, IfOk};
 ghost use Rattle.std.specs.List.{list_any, list_all};
 ghost use Rattle.sas_task.specs.States.{holds as fact_holds, all_hold as every_holds};
 ghost use Rattle.sas_task.specs.States.{fires as effect_fires};
+ghost use Rattle.bit_rows.specs.Rows.{has as has_bit};
 ghost use Rattle.lm_status.specs.Accepted.{facts_of, holds_at, opens, accepted_next, before_of};
 ghost use Rattle.lm_status.specs.Estimates.{is_open as open_at, is_goal_at, after_of};
 ghost use Rattle.lm_status.specs.Estimates.{landmark_estimate};
 ghost use Rattle.lm_status.specs.Preferred.{is_next as next_at, is_wanted as wanted};
 ghost use Rattle.lm_status.specs.Preferred.{leads_on as op_leads_on, landmark_preferred};
-ghost use Rattle.lm_status.specs.Rows.{has as has_bit, words_of, StandsFor};
+ghost use Rattle.lm_status.specs.Rows.{words_of, StandsFor};
 ghost use Rattle.lm_status.specs.Statuses.{IsStatusOf};
 
 use crate::making::{make_after, make_before, make_facts, make_goals, make_weights, put_weights};
-use crate::rows::{clear, has, put};
 use crate::table::make_table;
+use bit_rows::{clear, has, put, words_for};
 use lama_num::{LARGEST_ESTIMATE, NoMemory, Rows};
 use lm_graph::{FactTable, Graph};
 use sas_task::{CostKind, Effect, Fact, Task};
@@ -149,7 +150,7 @@ impl Status {
         ensures words { result ≡ words_of self.now.graph }
         ensures few { result ≤ 1024 }
     {
-        self.count().div_ceil(64)
+        words_for(self.count())
     }
 
     fn facts(&self, node: usize) -> &[Fact]

@@ -3,7 +3,8 @@ ghost use Rattle.std.specs.Prelude.{◌≡◌, ◌≢◌, ◌++◌, ◌∷◌, [
 ghost use Rattle.std.specs.Prelude.{None, Some};
 ghost use Rattle.lm_status.specs.Estimates.{landmark_estimate};
 ghost use Rattle.lm_status.specs.Preferred.{leads_on as op_leads_on};
-ghost use Rattle.lm_status.specs.Rows.{StandsFor, has, words_of};
+ghost use Rattle.lm_status.specs.Rows.{StandsFor, words_of};
+ghost use Rattle.bit_rows.specs.Rows.{has};
 ghost use Rattle.lm_status.specs.Statuses.{IsStatusOf};
 ghost use Rattle.lm_tracks.specs.Rows.{row_in, IsThere};
 ghost use Rattle.lm_tracks.specs.Tracks.{Keeps};

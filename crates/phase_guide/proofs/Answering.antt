@@ -13,7 +13,8 @@ use Rattle.lm_graph.specs.Graphs.{Content}
 use Rattle.lm_status.specs.Accepted.{accepted}
 use Rattle.lm_status.specs.Estimates.{landmark_estimate}
 use Rattle.lm_status.specs.Preferred.{leads_on}
-use Rattle.lm_status.specs.Rows.{has, StandsFor}
+use Rattle.bit_rows.specs.Rows.{has}
+use Rattle.lm_status.specs.Rows.{StandsFor}
 use Rattle.guide.specs.declared.seen.Seen.{Seen}
 use Rattle.guide.specs.Operators.{applicable_operators, is_among}
 use Rattle.guide.specs.OperatorLaws.{kept_among, none_preferred}

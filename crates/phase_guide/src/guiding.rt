@@ -39,7 +39,7 @@ impl Model for PhaseGuide {
 impl PhaseGuide {
     ghost use Rattle.std.specs.Prelude.{OnOk, Option};
     ghost use Rattle.guide.specs.Operators.{applicable_operators};
-    ghost use Rattle.lm_status.specs.Rows.{has as has_bit};
+    ghost use Rattle.bit_rows.specs.Rows.{has as has_bit};
     ghost use Rattle.phase_guide.specs.Relaxings.{Tells};
     ghost use Rattle.phase_guide.specs.Fits.{Answers};
     ghost use Rattle.phase_guide.specs.Guides.{IsFor};

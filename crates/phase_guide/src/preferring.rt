@@ -3,7 +3,7 @@ ghost use Rattle.std.specs.Prelude.{◌≡◌, ◌++◌, ◌∷◌, ◌&&◌, �
 ghost use Rattle.std.specs.Prelude.{if◌then◌else◌};
 ghost use Rattle.guide.specs.Operators.{is_among};
 ghost use Rattle.lm_status.specs.Preferred.{leads_on};
-ghost use Rattle.lm_status.specs.Rows.{has};
+ghost use Rattle.bit_rows.specs.Rows.{has};
 ghost use Rattle.phase_guide.specs.Kinds.{is_first};
 
 use lama_num::NoMemory;

@@ -1,5 +1,5 @@
 use Rattle.std.proofs.Common.{◌∙◌, sym}
-use Rattle.lm_backchain.proofs.Coming.{greedy_set, this_gives, this_place, this_at, this_other, this_ordered, this_full, set_within, stays_at, still_back}
+use Rattle.lm_backchain.proofs.Coming.{greedy_set, this_gives, this_place, this_at, this_other, this_ordered, this_full, this_stays, set_within, stays_at}
 use Rattle.lm_backchain.proofs.Listing.{item}
 use Rattle.lm_backchain.proofs.growing.add_before.Goals as goal
 
@@ -23,25 +23,15 @@ order-requires-clause-different c =
     let at = item c.args.list.now c.args.at c.index-list-at.result _ c.requires.at c.index-list-at.is c.deref.ensures in
     this_other c.args.task.now c.args.graph.now c.args.place c.args.list.now c.args.at _ c.requires.place c.requires.back at c.add_node.new.graph c.in_ok-added.added c.requires.works c.in_ok-added.ensures.ok c.in-Some.before (sym c.number_of.ensures ∙ c.in-Some.is)
 
-pub returns-in_ok-order-in-Some-clause-place : goal.returns-in_ok-order-in-Some-clause-place
-returns-in_ok-order-in-Some-clause-place c =
+pub returns-in_ok-order-in-Some-clause-nodes : goal.returns-in_ok-order-in-Some-clause-nodes
+returns-in_ok-order-in-Some-clause-nodes c i x own =
     let at = item c.args.list.now c.args.at c.index-list-at.result _ c.requires.at c.index-list-at.is c.deref.ensures in
-    set_within c.order.new.self c.args.place _ (stays_at c.add_node.new.graph c.order.new.self c.args.place _ c.in_ok-order-in-Some.ensures.ok.nodes (this_place c.args.task.now c.args.graph.now c.args.place c.args.list.now c.args.at _ c.requires.place c.requires.back at c.add_node.new.graph c.in_ok-added.added c.requires.works c.in_ok-added.ensures.ok))
+    stays_at c.add_node.new.graph c.order.new.self i x c.in_ok-order-in-Some.ensures.ok.nodes (this_stays c.args.task.now c.args.graph.now c.args.place c.args.list.now c.args.at _ c.requires.place c.requires.back at c.add_node.new.graph c.in_ok-added.added c.requires.works c.in_ok-added.ensures.ok i x own)
 
-pub returns-in_ok-order-in-Some-clause-back : goal.returns-in_ok-order-in-Some-clause-back
-returns-in_ok-order-in-Some-clause-back c =
+pub returns-in-None-clause-nodes : goal.returns-in-None-clause-nodes
+returns-in-None-clause-nodes c i x own =
     let at = item c.args.list.now c.args.at c.index-list-at.result _ c.requires.at c.index-list-at.is c.deref.ensures in
-    still_back c.args.task.now c.args.graph.now c.order.new.self c.args.place c.args.list.now c.requires.place c.requires.back (stays_at c.add_node.new.graph c.order.new.self c.args.place _ c.in_ok-order-in-Some.ensures.ok.nodes (this_place c.args.task.now c.args.graph.now c.args.place c.args.list.now c.args.at _ c.requires.place c.requires.back at c.add_node.new.graph c.in_ok-added.added c.requires.works c.in_ok-added.ensures.ok))
-
-pub returns-in-None-clause-place : goal.returns-in-None-clause-place
-returns-in-None-clause-place c =
-    let at = item c.args.list.now c.args.at c.index-list-at.result _ c.requires.at c.index-list-at.is c.deref.ensures in
-    set_within c.add_node.new.graph c.args.place _ (this_place c.args.task.now c.args.graph.now c.args.place c.args.list.now c.args.at _ c.requires.place c.requires.back at c.add_node.new.graph c.in_ok-added.added c.requires.works c.in_ok-added.ensures.ok)
-
-pub returns-in-None-clause-back : goal.returns-in-None-clause-back
-returns-in-None-clause-back c =
-    let at = item c.args.list.now c.args.at c.index-list-at.result _ c.requires.at c.index-list-at.is c.deref.ensures in
-    still_back c.args.task.now c.args.graph.now c.add_node.new.graph c.args.place c.args.list.now c.requires.place c.requires.back (this_place c.args.task.now c.args.graph.now c.args.place c.args.list.now c.args.at _ c.requires.place c.requires.back at c.add_node.new.graph c.in_ok-added.added c.requires.works c.in_ok-added.ensures.ok)
+    this_stays c.args.task.now c.args.graph.now c.args.place c.args.list.now c.args.at _ c.requires.place c.requires.back at c.add_node.new.graph c.in_ok-added.added c.requires.works c.in_ok-added.ensures.ok i x own
 
 pub returns-in_ok-order-in-Some-clause-works : goal.returns-in_ok-order-in-Some-clause-works
 returns-in_ok-order-in-Some-clause-works c =

@@ -1,21 +1,16 @@
-use Rattle.std.proofs.Common.{◌≡◌, ◌<◌, length, true, false, arith}
-use Rattle.std.proofs.lemmas.Bool.{both_ways}
-use Rattle.lama_num.specs.Lists.{list_all_get}
-use Rattle.sas_task.specs.WellFormed.{is_fact}
-use Rattle.lm_backchain.proofs.Listing.{read_at}
-use Rattle.lm_backchain.proofs.Strong.{late_test, late_single}
+use Rattle.std.proofs.Common.{◌≡◌, ◌∙◌, sym, ap, subst, ℕ, List, Bool, not, true, false, ◌↔◌}
+use Rattle.bit_rows.specs.Rows.{has}
+use Rattle.lm_backchain.specs.Backchain.{GivesNatural}
+use Rattle.lm_backchain.proofs.Strong.{late_test, none_to}
 use Rattle.lm_backchain.proofs.natural.is_late.Goals as goal
 
-pub returns-then-not-is_open_single : goal.returns-then-not-is_open_single
-returns-then-not-is_open_single c node knows single ne = (
+pub returns-in-None : goal.returns-in-None
+returns-in-None c parts a b single kept ne = (
   λ h. (let k : false ≡ true = h in cc),
-  λ g. absurd (both_ways _ c.if-not-is_open_single.true (c.is_open_single.ensures.1 (late_single c.args.task.now node c.args.facts.now g))),
+  λ g. absurd (none_to parts a b (rw c.in-None.is at kept) g),
 )
 
-pub returns : goal.returns
-returns c node knows single ne =
-    let own = c.is_open_single.ensures.0 c.if-not-is_open_single.false in
-    let lt : 0 < length c.args.facts.now = omega (arith, own.one) in
-    let at = read_at c.args.facts.now 0 (record { var = 0; val = 0 }) lt in
-    let there = list_all_get (is_fact c.args.task.now.variables) c.args.facts.now 0 _ c.requires.facts at in
-    late_test c.args.task.now node c.args.facts.now _ c.is_reached.result single own ne at (c.is_reached.ensures c.args.task.now node knows there)
+pub returns-in-Some : goal.returns-in-Some
+returns-in-Some c parts a b single kept ne =
+    let is : c.has.result ≡ has c.args.before.now.reached c.in-Some.after.number = c.has.ensures ∙ ap (λ (row : List ℕ). has row c.in-Some.after.number) c.deref.ensures in
+    subst (λ (t : Bool). (not t ≡ true) ↔ GivesNatural parts a b) (sym is) (late_test parts a b c.args.before.now c.in-Some.after single (rw c.in-Some.is at kept) ne)

@@ -1,4 +1,5 @@
-use Rattle.std.proofs.Common.{◌∙◌, sym}
+use Rattle.std.proofs.Common.{◌∙◌, sym, None}
+use Rattle.std.proofs.lemmas.Bool.{both_ways}
 use Rattle.lm_backchain.proofs.Asking.{taken_back_closed}
 use Rattle.lm_backchain.proofs.Finding.{knows_from, start_long}
 use Rattle.lm_backchain.proofs.Sound.{first_facts}
@@ -21,3 +22,12 @@ back_from-requires-clause-facts c = rw c.deref.ensures.value (λ conds m. first_
 
 pub returns-clause-sets : goal.returns-clause-sets
 returns-clause-sets c = (rw c.deref.ensures.value at c.in_ok-sets.ensures) c.args.node.now (sym c.is_open.ensures ∙ c.if-not-is_open.false) c.in_ok-firsts.ensures
+
+pub returns-then-not-is_open-clause-keeps : goal.returns-then-not-is_open-clause-keeps
+returns-then-not-is_open-clause-keeps c = record { single = None; singles = c.in_ok-push.ensures.items; kept = λ s. both_ways _ (sym c.is_open.ensures ∙ c.if-not-is_open.true) s.are_open }
+
+pub returns-clause-keeps : goal.returns-clause-keeps
+returns-clause-keeps c =
+    let free = sym c.is_open.ensures ∙ c.if-not-is_open.false in
+    let knows = knows_from c.args.task.now c.args.node.now c.args.start.now c.args.add.now c.evaluate_without.new.self c.requires.start c.requires.add c.evaluate_without.ensures.task c.requires.node c.evaluate_without.ensures.costs in
+    record { single = c.in_ok-kept.kept; singles = c.in_ok-push-2.ensures.items; kept = c.in_ok-kept.ensures c.args.task.now knows c.requires.node free }

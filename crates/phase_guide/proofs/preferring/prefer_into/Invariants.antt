@@ -1,7 +1,7 @@
 use Rattle.std.proofs.Common.{◌≡◌, ◌||◌, ◌&&◌, filter, take, drop}
 use Rattle.guide.specs.Operators.{is_among}
 use Rattle.lm_status.specs.Preferred.{leads_on}
-use Rattle.lm_status.specs.Rows.{has}
+use Rattle.bit_rows.specs.Rows.{has}
 use Rattle.phase_guide.proofs.Sides.{AreBeside}
 use Rattle.phase_guide.proofs.preferring.prefer_into.Given as goal
 

@@ -1,6 +1,7 @@
 use Rattle.std.proofs.Common.{◌≡◌, ◌∙◌, sym, subst, ℕ, ◌+◌, length, ◌&&◌, not, true, false, arith}
 use Rattle.lm_status.specs.Accepted.{opens}
-use Rattle.lm_status.specs.Rows.{has, words_of}
+use Rattle.bit_rows.specs.Rows.{has}
+use Rattle.lm_status.specs.Rows.{words_of}
 use Rattle.lm_status.proofs.Loops.{AddedBelow, added_more, kept_more, all_added}
 use Rattle.lm_status.proofs.status.Status.accept.Goals as goal
 use Rattle.lm_status.proofs.status.Status.accept.Goals.{then-is_new, else-is_new}

@@ -1,6 +1,7 @@
 use Rattle.std.proofs.Common.{◌≡◌, length}
 use Rattle.lm_status.specs.Accepted.{opens}
-use Rattle.lm_status.specs.Rows.{has, words_of}
+use Rattle.bit_rows.specs.Rows.{has}
+use Rattle.lm_status.specs.Rows.{words_of}
 use Rattle.lm_status.proofs.Loops.{AddedBelow}
 use Rattle.lm_status.proofs.status.Status.accept.Given as goal
 

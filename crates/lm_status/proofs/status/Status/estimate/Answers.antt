@@ -1,6 +1,6 @@
 use Rattle.std.proofs.Common.{◌≡◌, ◌∙◌, ◌+◌, min, sym, ap, true, false, slice_index}
 use Rattle.lm_status.specs.Estimates.{is_open}
-use Rattle.lm_status.specs.Rows.{has}
+use Rattle.bit_rows.specs.Rows.{has}
 use Rattle.lm_status.proofs.Sums.{capped_more, capped_same}
 use Rattle.lm_status.proofs.status.Status.estimate.Goals as goal
 use Rattle.lm_status.proofs.status.Status.estimate.Goals.{then-is_open, else-is_open}

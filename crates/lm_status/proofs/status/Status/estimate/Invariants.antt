@@ -1,7 +1,7 @@
 use Rattle.std.proofs.Common.{◌≡◌, min, slice_index, sum_by, filter}
 use Rattle.std.specs.List.{range_with_len}
 use Rattle.lm_status.specs.Estimates.{is_open}
-use Rattle.lm_status.specs.Rows.{has}
+use Rattle.bit_rows.specs.Rows.{has}
 use Rattle.lm_status.proofs.status.Status.estimate.Given as goal
 
 abbrev pub invariant-loop-node : goal.invariant-loop-node

@@ -2,7 +2,7 @@ use Rattle.std.proofs.Common.{◌<◌, ◌∙◌, sym, ap, subst, length, slice_
 use Rattle.std.specs.List.{list_any}
 use Rattle.lm_status.specs.Statuses.{Charted}
 use Rattle.lm_status.specs.Preferred.{is_next}
-use Rattle.lm_status.specs.Rows.{has}
+use Rattle.bit_rows.specs.Rows.{has}
 use Rattle.lm_status.proofs.Tables.{found_within}
 use Rattle.lm_status.proofs.status.Status.is_wanted.Goals as goal
 

@@ -1,6 +1,6 @@
 use Rattle.std.proofs.Common.{◌<◌, ◌∙◌, ℕ, ap, arith, length, not}
 use Rattle.std.specs.List.{list_any}
-use Rattle.lm_status.specs.Rows.{has}
+use Rattle.bit_rows.specs.Rows.{has}
 use Rattle.lm_status.proofs.status.Status.leads_to_new.Goals as goal
 
 pub row-requires : goal.row-requires

@@ -1,6 +1,6 @@
 use Rattle.std.proofs.Common.{◌≡◌, take, ◌≤◌, vec_len, vec_capacity}
 use Rattle.lm_status.specs.Preferred.{landmark_preferred}
-use Rattle.lm_status.specs.Rows.{has}
+use Rattle.bit_rows.specs.Rows.{has}
 use Rattle.lm_status.proofs.status.Status.preferred_into.Given as goal
 
 abbrev pub invariant-loop-op : goal.invariant-loop-op

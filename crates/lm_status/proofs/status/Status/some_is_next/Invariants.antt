@@ -1,7 +1,7 @@
 use Rattle.std.proofs.Common.{◌≡◌, take, false}
 use Rattle.std.specs.List.{list_any}
 use Rattle.lm_status.specs.Preferred.{is_next}
-use Rattle.lm_status.specs.Rows.{has}
+use Rattle.bit_rows.specs.Rows.{has}
 use Rattle.lm_status.proofs.status.Status.some_is_next.Given as goal
 
 abbrev pub invariant-loop-node : goal.invariant-loop-node

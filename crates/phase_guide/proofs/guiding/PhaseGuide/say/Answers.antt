@@ -3,7 +3,7 @@ use Rattle.conf_text.specs.Grammar.{has_guide}
 use Rattle.conf_text.specs.declared.config.GuideKind.{GuideKind}
 use Rattle.conf_text.specs.declared.config.GuideKind.TheVariants.{Ff, Lm}
 use Rattle.lm_status.specs.Preferred.{leads_on}
-use Rattle.lm_status.specs.Rows.{has}
+use Rattle.bit_rows.specs.Rows.{has}
 use Rattle.guide.specs.Operators.{is_among}
 use Rattle.phase_guide.specs.Fits.{Answers}
 use Rattle.phase_guide.specs.Guides.{Guiding, IsFor}

@@ -1,6 +1,6 @@
 use Rattle.std.proofs.Common.{◌≡◌, ◌↔◌, sym, subst, refl, [], ◌∷◌, ◌++◌, true, filter}
 use Rattle.relaxed_task.specs.Reached.{IsDead}
-use Rattle.lm_status.specs.Rows.{has}
+use Rattle.bit_rows.specs.Rows.{has}
 use Rattle.lm_tracks.specs.Tracks.{Keeps}
 use Rattle.guide.specs.Operators.{is_among}
 use Rattle.phase_guide.specs.Fits.{Answers, Fits, last_more}
