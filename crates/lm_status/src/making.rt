@@ -4,15 +4,16 @@ ghost use Rattle.lm_graph.specs.Orders.{is_strong};
 ghost use Rattle.lm_graph.specs.Nodes.{sets_of};
 ghost use Rattle.lm_status.specs.Accepted.{nodes_in};
 ghost use Rattle.lm_status.specs.Estimates.{adjusted as adjusted_cost, weight_of};
-ghost use Rattle.lm_status.specs.Statuses.{AreAfter};
+ghost use Rattle.lm_status.specs.Statuses.{AreAfter, AreTables};
 
+use crate::table::make_table;
 use lama_num::{NoMemory, Rows};
-use lm_graph::{Edge, Graph, Node, Order};
+use lm_graph::{Edge, FactTable, Graph, Node, Order};
 use sas_task::{CostKind, Fact, Task};
 use std::alloc::{AllocError, Global};
 
 /// The facts of each node.
-pub(crate) fn make_facts(alloc: Global, nodes: &[Node]) -> Result<Rows<Fact>, NoMemory>
+fn make_facts(alloc: Global, nodes: &[Node]) -> Result<Rows<Fact>, NoMemory>
     ensures { IfOk result (λ facts. facts ≡ sets_of nodes.now) }
 {
     let mut facts = Rows::new(alloc);
@@ -29,7 +30,7 @@ fn node_numbers(alloc: Global, row: &[Edge]) -> Result<Vec<u32>, AllocError>
 }
 
 /// The predecessors of each node.
-pub(crate) fn make_before(alloc: Global, graph: &Graph) -> Result<Rows<u32>, NoMemory>
+fn make_before(alloc: Global, graph: &Graph) -> Result<Rows<u32>, NoMemory>
     ensures { IfOk result (λ before. before ≡ map nodes_in graph.now.rows) }
 {
     let mut before = Rows::new(alloc);
@@ -51,7 +52,7 @@ fn greedy_nodes(alloc: Global, row: &[Edge]) -> Result<Vec<u32>, AllocError>
 }
 
 /// The nodes that each node is to hold directly before.
-pub(crate) fn make_after(alloc: Global, graph: &Graph) -> Result<Rows<u32>, NoMemory>
+fn make_after(alloc: Global, graph: &Graph) -> Result<Rows<u32>, NoMemory>
     ensures { IfOk result (AreAfter graph.now) }
 {
     let successors = graph.successors()?;
@@ -64,7 +65,7 @@ pub(crate) fn make_after(alloc: Global, graph: &Graph) -> Result<Rows<u32>, NoMe
 }
 
 /// Whether each node is a goal.
-pub(crate) fn make_goals(alloc: Global, nodes: &[Node]) -> Result<Vec<bool>, AllocError>
+fn make_goals(alloc: Global, nodes: &[Node]) -> Result<Vec<bool>, AllocError>
     ensures { IfOk result (λ goals. goals.items ≡ map (λ n. n.goal) nodes.now) }
 {
     nodes.iter().map(|node| node.goal).collect(alloc)
@@ -91,7 +92,7 @@ fn weight(task: &Task, kind: CostKind, node: &Node) -> u64
 }
 
 /// The weight of each node.
-pub(crate) fn make_weights(
+fn make_weights(
     alloc: Global,
     task: &Task,
     kind: CostKind,
@@ -112,5 +113,46 @@ pub(crate) fn put_weights(task: &Task, kind: CostKind, nodes: &[Node], weights: 
 {
     for node in 0..weights.len() {
         weights[node] = weight(task, kind, &nodes[node]);
+    }
+}
+
+/// A graph in flat tables, as a status keeps it.
+#[derive(Drop)]
+pub(crate) struct Charts {
+    pub facts: Rows<Fact>,
+    pub before: Rows<u32>,
+    pub after: Rows<u32>,
+    pub goals: Vec<bool>,
+    pub weights: Vec<u64>,
+    pub table: FactTable,
+}
+
+impl Charts {
+    /// The tables of a graph.
+    pub(crate) fn new(
+        alloc: Global,
+        task: &Task,
+        graph: &Graph,
+        kind: CostKind,
+    ) -> Result<Charts, NoMemory>
+        ensures tables { IfOk result (λ charts. AreTables graph.now charts.facts charts.before
+            charts.after charts.goals.items charts.weights.items charts.table) }
+        ensures weights { IfOk result
+            (λ charts. charts.weights.items ≡ map (weight_of task.now kind) graph.now.nodes) }
+    {
+        let facts = make_facts(alloc, graph.nodes())?;
+        let before = make_before(alloc, graph)?;
+        let after = make_after(alloc, graph)?;
+        let goals = make_goals(alloc, graph.nodes())?;
+        let weights = make_weights(alloc, task, kind, graph.nodes())?;
+        let table = make_table(alloc, graph.nodes())?;
+        Ok(Charts {
+            facts,
+            before,
+            after,
+            goals,
+            weights,
+            table,
+        })
     }
 }

@@ -14,8 +14,7 @@ ghost use Rattle.lm_status.specs.Preferred.{leads_on as op_leads_on, landmark_pr
 ghost use Rattle.lm_status.specs.Rows.{words_of, StandsFor};
 ghost use Rattle.lm_status.specs.Statuses.{IsStatusOf};
 
-use crate::making::{make_after, make_before, make_facts, make_goals, make_weights, put_weights};
-use crate::table::make_table;
+use crate::making::{Charts, put_weights};
 use bit_rows::{clear, has, put, words_for};
 use lama_num::{LARGEST_ESTIMATE, NoMemory, Rows};
 use lm_graph::{FactTable, Graph};
@@ -113,12 +112,14 @@ impl Status {
     pub fn new(alloc: Global, task: &Task, graph: Graph, kind: CostKind) -> Result<Status, NoMemory>
         ensures { IfOk result (IsStatusOf task.now graph kind) }
     {
-        let facts = make_facts(alloc, graph.nodes())?;
-        let before = make_before(alloc, &graph)?;
-        let after = make_after(alloc, &graph)?;
-        let goals = make_goals(alloc, graph.nodes())?;
-        let weights = make_weights(alloc, task, kind, graph.nodes())?;
-        let table = make_table(alloc, graph.nodes())?;
+        let Charts {
+            facts,
+            before,
+            after,
+            goals,
+            weights,
+            table,
+        } = Charts::new(alloc, task, &graph, kind)?;
         Ok(Status {
             graph,
             facts,
