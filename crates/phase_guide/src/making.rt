@@ -21,6 +21,7 @@ use lm_status::Status;
 use lm_tracks::Tracks;
 use sas_task::Task;
 use std::alloc::Global;
+use std::mem::replace;
 
 /// The landmarks of a task by backchaining, with reasonable orders added.
 fn landmark_graph(alloc: Global, task: &Task) -> Result<Graph, NoMemory>
@@ -81,7 +82,7 @@ fn renew_tracks(
     if are_enough(phase, had) {
         tracks.turn_to(task, phase.estimate);
     } else {
-        *tracks = tracks_for(alloc, task, phase)?;
+        release_tracks(replace(tracks, tracks_for(alloc, task, phase)?));
     }
     Ok(())
 }
@@ -98,7 +99,7 @@ fn renew_relaxing(
     ensures { OnOk result (Serves task.now phase.now relaxing.new) }
 {
     if !is_same_cost(had.estimate, phase.estimate) || !relaxing.is_enough(phase) {
-        *relaxing = new_relaxing(alloc, task, phase)?;
+        release_relaxing(replace(relaxing, new_relaxing(alloc, task, phase)?));
     }
     Ok(())
 }
@@ -116,13 +117,18 @@ pub fn guide(alloc: Global, task: &Task, phase: &Phase) -> Result<PhaseGuide, No
     ensures rows { IfOk result (λ guide. guide.tracks.rows ≡ []) }
 {
     let phase_of_guide = copy(alloc, phase)?;
-    let tracks = tracks_for(alloc, task, phase)?;
     let relaxing = new_relaxing(alloc, task, phase)?;
-    Ok(PhaseGuide {
-        phase: phase_of_guide,
-        relaxing,
-        tracks,
-    })
+    match tracks_for(alloc, task, phase) {
+        Ok(tracks) => Ok(PhaseGuide {
+            phase: phase_of_guide,
+            relaxing,
+            tracks,
+        }),
+        Err(e) => {
+            release_relaxing(relaxing);
+            Err(e)
+        }
+    }
 }
 
 impl PhaseGuide {
@@ -156,6 +162,16 @@ impl PhaseGuide {
     }
 }
 
-fn release_relaxing(_relaxing: Relaxing) {}
+fn release_relaxing(relaxing: Relaxing) {
+    match relaxing {
+        Relaxing::Nothing => {}
+        Relaxing::Additive(add) => release_add(add),
+        Relaxing::Planning(ff) => release_ff(ff),
+    }
+}
+
+fn release_add(_add: Add) {}
+
+fn release_ff(_ff: Ff) {}
 
 fn release_tracks(_tracks: Tracks) {}
