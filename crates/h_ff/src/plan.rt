@@ -5,7 +5,7 @@ ghost use Rattle.h_ff.specs.Places.{HasPlaces};
 use std::alloc::{AllocError, Global};
 
 /// The operators of a relaxed plan, and what is needed to find them.
-#[derive(Debug, Drop)]
+#[derive(Drop)]
 pub struct RelaxedPlan {
     /// Whether a fact is needed.
     pub marks: Vec<bool>,
