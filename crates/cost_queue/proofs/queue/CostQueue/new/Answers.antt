@@ -9,4 +9,4 @@ invariant_of-result c = ((_, (_, none_waiting (omega arith) c.nothing.ensures c.
 pub returns : goal.returns
 returns c =
     let is = none_waiting (omega arith) c.nothing.ensures c.nothing-2.ensures (c.in_ok-next.ensures.items_if_clones_equal (λ y h. search rules)) (c.in_ok-heads.ensures.items_if_clones_equal (λ y h. search rules)) c.in_ok-heap.ensures.items c.in_ok-heap.ensures.len c.in_ok-heap.ensures.capacity c.in_ok-heap.ensures.heap_order in
-    search (rules, stands_for, is)
+    search (stands_for, is)

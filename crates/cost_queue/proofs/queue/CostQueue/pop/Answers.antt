@@ -1,4 +1,4 @@
-use Rattle.std.proofs.Common.{rules, arith}
+use Rattle.std.proofs.Common.{arith}
 use Rattle.cost_queue.specs.OneMeaning.{stands_for}
 use Rattle.cost_queue.proofs.Keeping.{all_high, first_within, taken_low, popped_low}
 use Rattle.cost_queue.proofs.queue.CostQueue.pop.Goals as goal
@@ -27,4 +27,4 @@ returns c =
     let found = rw c.deref.ensures.value at c.in-Some.ensures in
     let taken = taken_low q found.some found.none in
     let is = popped_low q found.some found.none c.index.ensures in
-    record { waited = taken.waited; rest = search (rules, stands_for, is); least = taken.least }
+    record { waited = taken.waited; rest = search (stands_for, is); least = taken.least }

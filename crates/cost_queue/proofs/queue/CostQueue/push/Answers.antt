@@ -1,4 +1,3 @@
-use Rattle.std.proofs.Common.{rules}
 use Rattle.cost_queue.specs.OneMeaning.{stands_for}
 use Rattle.cost_queue.proofs.Keeping.{pushed_low}
 use Rattle.cost_queue.proofs.queue.CostQueue.push.Goals as goal
@@ -12,4 +11,4 @@ pub returns : goal.returns
 returns c =
     let q = rw c.self.view_is at c.self.inside.prices.1.1 in
     let is = pushed_low q c.requires.there c.requires.new c.if-price.false c.index.ensures c.to.ensures c.min-self-inside.ensures c.raise.ensures in
-    search (rules, stands_for, is)
+    search (stands_for, is)

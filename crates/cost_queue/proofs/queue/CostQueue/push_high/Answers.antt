@@ -1,4 +1,3 @@
-use Rattle.std.proofs.Common.{rules}
 use Rattle.cost_queue.specs.OneMeaning.{stands_for}
 use Rattle.cost_queue.proofs.Keeping.{has_room, pushed_high}
 use Rattle.cost_queue.proofs.queue.CostQueue.push_high.Goals as goal
@@ -18,4 +17,4 @@ pub returns : goal.returns
 returns c =
     let q = rw c.self.view_is at c.self.inside.prices.1.1 in
     let is = pushed_high q c.push.result c.requires.there c.requires.new c.requires.high c.push.ensures.succeeds c.push.ensures.len c.push.ensures.capacity c.push.ensures.permutation c.push.ensures.heap_order in
-    search (rules, stands_for, is)
+    search (stands_for, is)
