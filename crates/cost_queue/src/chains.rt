@@ -1,20 +1,12 @@
 // Chains of numbers: for each low price the first of those that wait under it.
-ghost use Rattle.std.specs.Prelude.{◌≡◌, ◌+◌, ◌<◌, ◌≤◌, ℕ, max, length, replicate, None, Some};
-ghost use Rattle.std.specs.Prelude.{Option, slice_get, slice_index_or, IfOk, IfSome, MatchOption};
+ghost use Rattle.std.specs.Prelude.{◌≡◌, ◌+◌, ◌<◌, ◌≤◌, ℕ, max, length, None, Some};
+ghost use Rattle.std.specs.Prelude.{Option, slice_get, slice_index_or, IfSome, MatchOption};
 
 use crate::entry::Entry;
 use crate::link::Link;
-use std::alloc::{AllocError, Global};
 
 /// Prices below this one have chains.
 pub const LOW: usize = 16_384;
-
-/// So many places that have nothing.
-pub fn nothing(alloc: Global, count: usize) -> Result<Vec<Link>, AllocError>
-    ensures { IfOk result (λ v. v.items ≡ replicate count None) }
-{
-    vec![in alloc; Link::nothing(); count]
-}
 
 /// Lets an end lie behind a price. It is mostly there already, so that it isn't written again.
 pub fn raise(end: &mut usize, price: usize)
@@ -34,7 +26,7 @@ pub fn first_low(heads: &[Link], start: usize, end: usize) -> Option<Entry>
         slice_index_or heads.now price None ≡ None)
         (λ entry. (price : ℕ) → start ≤ price → price < entry.price →
         slice_index_or heads.now price None ≡ None) }
-    ensures some { IfSome result (λ entry. (entry.price < end) × (start ≤ entry.price) ×
+    ensures some { IfSome result (λ entry. (entry.price < end) ×
         (slice_get heads.now entry.price ≡ Some (Some entry.number))) }
 {
     for price in start..end {

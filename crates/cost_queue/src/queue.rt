@@ -1,12 +1,12 @@
 // The queue: numbers under low prices in chains, the others in a heap.
 ghost use Rattle.std.specs.Prelude.{◌≡◌, ◌<◌, ◌≤◌, ℕ, length, replicate, None, Some, slice_set};
-ghost use Rattle.std.specs.Prelude.{IfOk, MatchOption};
+ghost use Rattle.std.specs.Prelude.{IfOk};
 ghost use Rattle.std.specs.BinaryHeap.{heap_items, heap_len, heap_capacity};
 ghost use Rattle.cost_queue.specs.Links.{Waiting};
 ghost use Rattle.cost_queue.specs.OneMeaning.{waiting_prop};
-ghost use Rattle.cost_queue.specs.Queues.{price_of, IsTaken, IsPopped, IsIdle};
+ghost use Rattle.cost_queue.specs.Queues.{price_of, IsPopped, IsIdle};
 
-use crate::chains::{LOW, first_low, nothing, raise};
+use crate::chains::{LOW, first_low, raise};
 use crate::entry::Entry;
 use crate::link::Link;
 use std::alloc::{AllocError, Global};
@@ -52,8 +52,8 @@ impl CostQueue {
         if numbers >= 4_294_967_296 {
             return Err(AllocError);
         }
-        let next = nothing(alloc, numbers)?;
-        let heads = nothing(alloc, LOW)?;
+        let next = vec![in alloc; Link::nothing(); numbers]?;
+        let heads = vec![in alloc; Link::nothing(); LOW]?;
         let heap = BinaryHeap::with_capacity(alloc, numbers)?;
         Ok(CostQueue {
             next,
@@ -62,20 +62,6 @@ impl CostQueue {
             end: 0,
             heap,
         })
-    }
-
-    #[inline]
-    fn push_low(&mut self, number: u32, price: u32)
-        requires there { number < length self.old }
-        requires new { price_of self.old number ≡ None }
-        requires low { price < 16384 }
-        ensures { self.new ≡ slice_set self.old number (Some price) }
-    {
-        let low = price as usize;
-        self.next[number as usize] = self.heads[low];
-        self.heads[low] = Link::to(number);
-        self.start = self.start.min(low);
-        raise(&mut self.end, low);
     }
 
     #[inline(never)]
@@ -98,27 +84,14 @@ impl CostQueue {
         requires new { price_of self.old number ≡ None }
         ensures { self.new ≡ slice_set self.old number (Some price) }
     {
-        if price < LOW as u32 {
-            self.push_low(number, price);
-        } else {
-            self.push_high(number, price);
+        if price >= LOW as u32 {
+            return self.push_high(number, price);
         }
-    }
-
-    #[inline]
-    fn pop_low(&mut self) -> Option<Entry>
-        ensures { MatchOption result ((self.new ≡ self.old) ×
-            ((number price : ℕ) → price_of self.old number ≡ Some price →
-            16384 ≤ price)) (λ entry. IsTaken self.old self.new entry) }
-    {
-        match first_low(&self.heads, self.start, self.end) {
-            Some(entry) => {
-                self.heads[entry.price as usize] = self.next[entry.number as usize];
-                self.start = entry.price as usize;
-                Some(entry)
-            }
-            None => None,
-        }
+        let low = price as usize;
+        self.next[number as usize] = self.heads[low];
+        self.heads[low] = Link::to(number);
+        self.start = self.start.min(low);
+        raise(&mut self.end, low);
     }
 
     #[inline(never)]
@@ -126,9 +99,7 @@ impl CostQueue {
         requires { (number price : ℕ) → price_of self.old number ≡ Some price → 16384 ≤ price }
         ensures { IsPopped self.old self.new result }
     {
-        let Some(Reverse((price, number))) = self.heap.pop() else {
-            return None;
-        };
+        let Reverse((price, number)) = self.heap.pop()?;
         Some(Entry { price, number })
     }
 
@@ -137,10 +108,12 @@ impl CostQueue {
     pub fn pop(&mut self) -> Option<Entry>
         ensures { IsPopped self.old self.new result }
     {
-        match self.pop_low() {
-            Some(entry) => Some(entry),
-            None => self.pop_high(),
-        }
+        let Some(entry) = first_low(&self.heads, self.start, self.end) else {
+            return self.pop_high();
+        };
+        self.heads[entry.price as usize] = self.next[entry.number as usize];
+        self.start = entry.price as usize;
+        Some(entry)
     }
 
     /// Takes out all that wait.

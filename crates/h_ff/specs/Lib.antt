@@ -1,4 +1,4 @@
-pub mod Flags
 pub mod Orders
+pub mod Places
 pub mod Ready
 pub mod RelaxedPlans

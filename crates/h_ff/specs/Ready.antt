@@ -1,8 +1,7 @@
--- What an evaluator of FF is for, and what it keeps between evaluations.
-use Rattle.std.specs.Prelude.{◌≡◌, ℕ, List}
+-- What an evaluator of FF is for, and what it found last.
+use Rattle.std.specs.Prelude.{ℕ, List}
 use Rattle.sas_task.specs.declared.contents.CostKind.{CostKind}
 use Rattle.relaxed_task.specs.declared.relaxation.Lists.{Lists}
-use Rattle.h_ff.specs.RelaxedPlans.{Planned}
 
 -- What contracts see of an evaluator: the relaxation of its task, what each fact costs by the last evaluation, its kind of cost, and the
 -- operators that it found last.
@@ -12,7 +11,3 @@ pub record Planner : Type 0 where
   pub kind : CostKind
   pub plan : List ℕ
   pub preferred : List ℕ
-
--- room for the plans of the relaxation
-pub record IsKept (relaxed : Lists) (plan : Planned) : Type 0 where
-  pub plan_long : plan.facts ≡ relaxed.facts

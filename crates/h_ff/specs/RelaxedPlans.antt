@@ -1,5 +1,5 @@
 -- What FF answers.
-use Rattle.std.specs.Prelude.{◌≡◌, ◌↔◌, ◌≤◌, ℕ, min, List, [], filter, Contains, sum_by}
+use Rattle.std.specs.Prelude.{◌≡◌, ◌↔◌, ℕ, min, List, [], filter, Contains, sum_by}
 use Rattle.std.specs.List.{filter_map}
 use Rattle.std.specs.List.Sorted.{IsStrictlyIncreasing}
 use Rattle.lama_num.specs.declared.estimates.Estimate.{Estimate}
@@ -38,16 +38,3 @@ pub record HasPlan (parts : Parts) (kind : CostKind) (state : List ℕ) (value :
 abbrev pub IsFf : Parts → CostKind → List ℕ → Estimate → List ℕ → List ℕ → Type 0
 IsFf parts kind state (Finite value) ops preferred = HasPlan parts kind state value ops preferred
 IsFf parts kind state Infinite ops preferred = IsDead parts state × (ops ≡ []) × (preferred ≡ [])
-
--- What contracts see of a plan that is found: for how many facts there is room, its operators, and those of them that are applicable.
-pub record Planned : Type 0 where
-  pub facts : ℕ
-  pub operators : List ℕ
-  pub preferred : List ℕ
-
--- room for the operators of so many facts
-pub record HasPlaces (facts needed_room operators operators_room preferred_room : ℕ) : Type 0 where
-  pub needed : facts ≤ needed_room
-  pub few : operators ≤ facts
-  pub operators_fit : facts ≤ operators_room
-  pub preferred_fit : facts ≤ preferred_room

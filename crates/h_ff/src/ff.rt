@@ -6,7 +6,8 @@ ghost use Rattle.relaxed_task.specs.Relaxations.{IsRelaxed};
 ghost use Rattle.h_add.specs.Values.{IsEvaluated};
 ghost use Rattle.h_ff.specs.RelaxedPlans.{IsFf};
 
-use crate::operators::cost;
+use crate::keep::find;
+use crate::operators::{cost, prefer};
 use crate::plan::RelaxedPlan;
 use h_add::Add;
 use lama_num::{Estimate, NoMemory};
@@ -32,7 +33,8 @@ pub struct Ff {
 }
 
 impl Model for Ff {
-    ghost use Rattle.h_ff.specs.Ready.{Planner, IsKept};
+    ghost use Rattle.h_ff.specs.Ready.{Planner};
+    ghost use Rattle.h_ff.specs.Places.{HasPlaces};
 
     ghost Value = { Planner };
 
@@ -40,11 +42,11 @@ impl Model for Ff {
       relaxed = f.add.relaxed;
       costs = f.add.costs;
       kind = f.kind;
-      plan = f.plan.operators;
-      preferred = f.plan.preferred;
+      plan = f.plan.operators.items;
+      preferred = f.plan.preferred.items;
     } };
 
-    ghost invariant = { λ f. IsKept f.add.relaxed f.plan };
+    ghost invariant = { λ f. HasPlaces f.add.relaxed.facts f.plan };
 }
 
 impl Ff {
@@ -78,14 +80,21 @@ impl Ff {
             result ≡ Estimate.Infinite → end_of task.now state.now ops ≡ Some last →
             is_goal task.now last ≡ false }
     {
-        self.plan.clear();
+        let plan = &mut self.plan;
+        plan.operators.clear();
+        plan.preferred.clear();
         self.add.evaluate(state);
         if self.add.is_dead() {
             return Estimate::Infinite;
         }
-        self.plan.find(self.add.relaxed(), self.add.order());
-        self.plan.prefer(task, state);
-        Estimate::Finite(cost(task, self.kind, self.plan.operators()))
+        find(
+            self.add.relaxed(),
+            self.add.order(),
+            &mut plan.marks,
+            &mut plan.operators,
+        );
+        prefer(task, state, &plan.operators, &mut plan.preferred);
+        Estimate::Finite(cost(task, self.kind, &plan.operators))
     }
 
     /// The additive estimate of the state that was evaluated last: a search with both guides
@@ -101,13 +110,13 @@ impl Ff {
     pub fn relaxed_plan(&self) -> &[u32]
         ensures { result.now ≡ self.now.plan }
     {
-        self.plan.operators()
+        &self.plan.operators
     }
 
     /// Those operators of the relaxed plan that are applicable in the state, ascending.
     pub fn preferred(&self) -> &[u32]
         ensures { result.now ≡ self.now.preferred }
     {
-        self.plan.preferred()
+        &self.plan.preferred
     }
 }

@@ -1,19 +1,9 @@
 // Flags for facts, and lists with room.
-ghost use Rattle.std.specs.Prelude.{◌≡◌, ◌<◌, ◌≤◌, ◌∷◌, ◌++◌, ◌||◌, [], ℕ, length, true, false};
-ghost use Rattle.std.specs.Prelude.{IsTrue, vec_len, vec_capacity};
+ghost use Rattle.std.specs.Prelude.{◌≡◌, ◌<◌, ◌≤◌, ◌∷◌, ◌++◌, ◌||◌, [], ℕ, length, IsTrue};
+ghost use Rattle.std.specs.Prelude.{vec_len, vec_capacity};
 ghost use Rattle.std.specs.List.{list_all};
-ghost use Rattle.relaxed_task.specs.Numbers.{is_below};
-ghost use Rattle.relaxed_task.specs.Numbers.{is_among};
-ghost use Rattle.h_ff.specs.Flags.{is_given};
-
-pub fn flag(flags: &[bool], fact: u32) -> bool
-    ensures { result ≡ is_given flags.now fact }
-{
-    match flags.get(fact as usize) {
-        Some(flag) => *flag,
-        None => false,
-    }
-}
+ghost use Rattle.relaxed_task.specs.Numbers.{is_among, is_below};
+ghost use Rattle.h_ff.specs.Orders.{is_given};
 
 /// Flags facts.
 pub fn flag_all(flags: &mut [bool], facts: &[u32])
@@ -24,13 +14,6 @@ pub fn flag_all(flags: &mut [bool], facts: &[u32])
     for fact in facts {
         flags[*fact as usize] = true;
     }
-}
-
-/// Takes back all flags.
-pub fn clear_all(flags: &mut [bool])
-    ensures { (fact : ℕ) → is_given flags.new fact ≡ false }
-{
-    flags.fill(false);
 }
 
 /// Adds to a list that has room.

@@ -1,48 +1,54 @@
-// Which best supporters of an order are needed.
-ghost use Rattle.std.specs.Prelude.{◌≡◌, ◌+◌, ◌<◌, ◌≤◌, [], ℕ, List, length, IsTrue, drop, vec_len};
-ghost use Rattle.std.specs.Prelude.{vec_capacity};
-ghost use Rattle.std.specs.List.{list_all};
-ghost use Rattle.relaxed_task.specs.Numbers.{is_among};
-ghost use Rattle.relaxed_task.specs.Numbers.{is_unary_below};
-ghost use Rattle.h_ff.specs.Flags.{is_given};
-ghost use Rattle.h_ff.specs.Orders.{IsPlanned, kept_places};
-ghost use Rattle.h_add.specs.Orders.{are_places};
+// Which best supporters of an order are needed, and their operators.
+ghost use Rattle.std.specs.Prelude.{◌≡◌, ◌+◌, ◌<◌, ◌≤◌, ◌∷◌, [], ℕ, List, length, IsTrue};
+ghost use Rattle.std.specs.Prelude.{vec_len, vec_capacity};
+ghost use Rattle.relaxed_task.specs.declared.unary.Unary.{Unary as TheUnary};
+ghost use Rattle.relaxed_task.specs.Numbers.{is_unary_below, over_numbers};
+ghost use Rattle.relaxed_task.specs.Relaxing.{kept};
+ghost use Rattle.h_add.specs.Orders.{chosen, are_places};
+ghost use Rattle.h_ff.specs.Orders.{IsPlanned, ops_of};
+ghost use Rattle.h_ff.specs.RelaxedPlans.{AreEachOnce};
 
-use crate::flags::{flag, flag_all, push_in};
-use relaxed_task::Unary;
+use crate::flags::{flag_all, push_in};
+use relaxed_task::{Relaxed, Unary};
 
 /// Keeps the last of an order that was not looked at, if what it gives is marked.
-fn keep_last(unaries: &[Unary], order: &[u32], k: usize, marks: &mut [bool], plan: &mut Vec<u32>)
-    requires k { k < length order.now }
-    requires places { IsTrue (are_places (length unaries.now) order.now) }
-    requires facts { IsTrue (list_all (is_unary_below (length marks.old)) unaries.now) }
-    requires room { vec_len plan.old + k < vec_capacity plan.old }
-    ensures kept { (goals : List ℕ) →
-        IsPlanned unaries.now goals (drop (k + 1) order.now) marks.old plan.old.items →
-        IsPlanned unaries.now goals (drop k order.now) marks.new plan.new.items }
-    ensures room { vec_len plan.new + k ≤ vec_capacity plan.new }
-    ensures capacity { vec_capacity plan.old ≤ vec_capacity plan.new }
+fn keep_last(unary: &Unary, marks: &mut [bool], operators: &mut Vec<u32>)
+    requires facts { IsTrue (is_unary_below (length marks.old) unary.now) }
+    requires room { vec_len operators.old < vec_capacity operators.old }
+    ensures kept { (goals : List ℕ) (after : List TheUnary) →
+        IsPlanned goals after marks.old operators.old.items →
+        IsPlanned goals (unary.now ∷ after) marks.new operators.new.items }
+    ensures few { vec_len operators.new ≤ vec_len operators.old + 1 }
+    ensures room { vec_capacity operators.old ≤ vec_capacity operators.new }
 {
-    let place = order[k];
-    let unary = &unaries[place as usize];
-    if flag(marks, unary.gives) {
+    if marks[unary.gives as usize] {
         flag_all(marks, &unary.conds);
-        push_in(plan, place);
+        if let Some(op) = unary.op {
+            push_in(operators, op);
+        }
     }
 }
 
-/// Keeps of an order what is needed, the last first.
-pub fn keep_needed(unaries: &[Unary], order: &[u32], marks: &mut [bool], plan: &mut Vec<u32>)
-    requires places { IsTrue (are_places (length unaries.now) order.now) }
-    requires facts { IsTrue (list_all (is_unary_below (length marks.old)) unaries.now) }
-    requires empty { plan.old.items ≡ [] }
-    requires room { length order.now ≤ vec_capacity plan.old }
+/// The operators of what is needed of an order of best supporters to reach the goal facts,
+/// ascending, each once.
+pub fn find(relaxed: &Relaxed, order: &[u32], marks: &mut [bool], operators: &mut Vec<u32>)
+    requires marks { length marks.old ≡ relaxed.now.facts }
+    requires places { IsTrue (are_places (length relaxed.now.unaries) order.now) }
+    requires empty { operators.old.items ≡ [] }
+    requires room { length order.now ≤ vec_capacity operators.old }
+    ensures operators { AreEachOnce
+        (ops_of (kept over_numbers relaxed.now.goals (chosen relaxed.now.unaries order.now)))
+        operators.new.items }
     ensures marks { length marks.new ≡ length marks.old }
-    ensures room { vec_capacity plan.old ≤ vec_capacity plan.new }
-    ensures plan { (goals : List ℕ) → ((fact : ℕ) → is_given marks.old fact ≡ is_among goals fact) →
-        plan.new.items ≡ kept_places unaries.now goals order.now }
+    ensures few { vec_len operators.new ≤ length order.now }
+    ensures room { vec_capacity operators.old ≤ vec_capacity operators.new }
 {
+    let unaries = relaxed.unary();
+    marks.fill(false);
+    flag_all(marks, relaxed.goals());
     for k in (0..order.len()).rev() {
-        keep_last(unaries, order, k, marks, plan);
+        keep_last(&unaries[order[k] as usize], marks, operators);
     }
+    operators.sort_unstable();
+    operators.dedup();
 }

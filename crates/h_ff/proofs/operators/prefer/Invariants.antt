@@ -1,7 +1,7 @@
 use Rattle.std.proofs.Common.{◌≡◌, ◌≤◌, length, take, vec_len, vec_capacity}
 use Rattle.std.specs.List.{filter}
 use Rattle.state_step.specs.Steps.{is_applicable}
-use Rattle.h_ff.proofs.operators.preferred_into.Given as goal
+use Rattle.h_ff.proofs.operators.prefer.Given as goal
 
 abbrev pub invariant-loop-op : goal.invariant-loop-op
 invariant-loop-op l = record {
