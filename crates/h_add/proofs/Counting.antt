@@ -11,8 +11,8 @@ use Rattle.relaxed_task.specs.Numbers.{is_among}
 use Rattle.relaxed_task.specs.declared.unary.Unary.{Unary}
 use Rattle.h_add.specs.declared.network.Open.{Open}
 use Rattle.h_add.specs.Settlements.{Settlement, cost_at, is_settled, is_reached, is_left_out, open_at, less_open, counted, offered}
-use Rattle.h_add.specs.UnderWay.{unreached, IsCounted, IsWaiting, IsWanted, IsUnderWay, HasCounted}
-use Rattle.h_add.proofs.Reaching.{reached_small, reached_same, paid_same, itself, and_true}
+use Rattle.h_add.specs.UnderWay.{share, summed, IsCounted, IsWaiting, IsWanted, IsUnderWay, HasCounted}
+use Rattle.h_add.proofs.Reaching.{reached_small, reached_same, itself, and_true}
 
 -- there is a unary operator at a place within
 pub record There (unaries : List Unary) (place : ℕ) : Type 0 where
@@ -85,7 +85,7 @@ steps_way unaries level place owed t now lt s way = record {
     settled_was : (fact : ℕ) → is_settled now fact ≡ false → is_settled t fact ≡ false
     settled_was fact new = ap (λ (fs : List Bool). get_or fs fact false) (sym s.settled) ∙ new
 
-    same : (fact : ℕ) → (is_reached now fact ≡ is_reached t fact) × (is_left_out now fact ≡ is_left_out t fact)
+    same : (fact : ℕ) → (is_reached now fact ≡ is_reached t fact) × (is_left_out now fact ≡ is_left_out t fact) × (share now fact ≡ share t fact)
     same = reached_same t now s.settled s.kept
 
     open_here : open_at now place ≡ less_open (open_at t place) level
@@ -106,8 +106,8 @@ steps_way unaries level place owed t now lt s way = record {
         let count_was = was.count in
         let sum_was = was.sum in
         let small_was = was.small in
-        let unreached_is : unreached (is_reached now) u.conds ≡ unreached (is_reached t) u.conds = ap (λ (p : ℕ → Bool). unreached p u.conds) (fun_ext (λ fact. (same fact).0)) in
-        let paid_is = paid_same (is_reached now) (is_reached t) (cost_at now) (cost_at t) u.conds (λ fact. (same fact).0) (λ fact is. s.kept fact (reached_small t fact is).0) in
+        let unreached_is = ap (λ (f : ℕ → ℕ). summed f u.conds) (fun_ext (λ fact. ap (λ (b : Bool). one_if (not b)) (same fact).0)) in
+        let paid_is = ap (λ (f : ℕ → ℕ). summed f u.conds) (fun_ext (λ fact. (same fact).2)) in
         elim (places other place) [
           | inl here ↦
               let one : one_if (nat_eq other place) ≡ 1 = ap one_if here.1 in

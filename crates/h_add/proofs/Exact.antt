@@ -1,10 +1,10 @@
 -- What is reached costs what it does by the rounds.
-use Rattle.std.proofs.Common.{◌≡◌, ◌∙◌, ap, subst, ℕ, zero, suc, List, [], ◌∷◌, Bool, true, false, nat_eq, if◌then◌else◌, Some, slice_get, refl, sym, ◌≤◌, inl, inr, ◌++◌, length, nat_le, nat_lt, not, ◌&&◌, ◌||◌, arith, None, map}
-use Rattle.std.proofs.lemmas.Bool.{eqb-true, false_from_ne_true, leb-true, leb-false, lt-ltb}
+use Rattle.std.proofs.Common.{◌≡◌, ◌∙◌, ap, subst, ℕ, zero, suc, List, [], ◌∷◌, Bool, true, false, nat_eq, if◌then◌else◌, Some, slice_get, refl, sym, ◌≤◌, inl, inr, ◌++◌, length, nat_le, nat_lt, not, ◌&&◌, ◌||◌, arith, None, map, ◌⊎◌, ◌<◌, ◌+◌}
+use Rattle.std.proofs.lemmas.Bool.{cases_lt, eqb-true, false_from_ne_true, leb-true, leb-false, lt-ltb}
 use Rattle.lama_num.specs.declared.estimates.Estimate.{Estimate}
 use Rattle.lama_num.specs.declared.estimates.Estimate.TheVariants.{Finite, Infinite}
-use Rattle.relaxed_task.specs.CostLaws.{price_at_most, price_attained}
-use Rattle.relaxed_task.specs.EstimateLaws.{at_most_self, at_most_trans, at_most_infinite, both_at_least, IsCapped, at_most_both}
+use Rattle.relaxed_task.specs.CostLaws.{price_at_most, price_attained, sum_capped}
+use Rattle.relaxed_task.specs.EstimateLaws.{at_most_self, at_most_trans, at_most_infinite, both_at_least, IsCapped, at_most_both, least_left, least_right, plus_left, plus_right}
 use Rattle.relaxed_task.specs.Estimates.{least, IsAtMost, is_finite, IsLeast}
 use Rattle.relaxed_task.specs.Numbers.{over_numbers, is_among, numbers_by, numbers_of, number_by}
 use Rattle.relaxed_task.specs.Relaxing.{least_price, sum_of as total}
@@ -13,6 +13,7 @@ use Rattle.h_add.specs.ByNumber.{is_started, price, add_round, IsClosed, AreBest
 use Rattle.std.specs.List.{list_all}
 use Rattle.std.proofs.lemmas.List.Folds.{list_any-append}
 use Rattle.std.proofs.lemmas.Option.{slice_get_within}
+use Rattle.cost_queue.specs.Occurrences.{one_if}
 use Rattle.cost_queue.specs.Queues.{IsIdle}
 use Rattle.lama_num.specs.Estimates.{estimate_sum}
 use Rattle.lama_num.specs.Lists.{both}
@@ -21,9 +22,9 @@ use Rattle.relaxed_task.specs.Elements.{denied}
 use Rattle.std.proofs.lemmas.List.{append-nil}
 use Rattle.h_add.specs.Orders.{chosen, given_by, are_places, IsOrder}
 use Rattle.h_add.specs.Settlements.{Settlement, cost_at, is_settled, is_reached, is_left_out, open_at}
-use Rattle.h_add.specs.UnderWay.{HasSettled, IsUnderWay, IsSettling, IsFrom, AreSettled}
+use Rattle.h_add.specs.UnderWay.{one_open, summed, IsCounted, IsWanted, HasSettled, IsUnderWay, IsSettling, IsFrom, AreSettled}
 use Rattle.h_add.specs.Values.{estimate_of, value_at, IsEvaluatedByNumber}
-use Rattle.h_add.proofs.Reaching.{finite_is, infinite_is, reached_small, all_reached, some_unreached, price_paid, itself, and_true, or_false}
+use Rattle.h_add.proofs.Reaching.{finite_is, infinite_is, reached_small, price_sum, itself, and_true, or_false}
 use Rattle.sas_task.specs.declared.contents.CostKind.{CostKind}
 use Rattle.sas_task.specs.declared.contents.Fact.{Fact}
 use Rattle.sas_task.specs.declared.contents.Parts.{Parts}
@@ -64,100 +65,55 @@ closed_is_below unaries start without v first closed (suc n) fact = by_test (is_
         both_at_least (v fact) (add_round unaries start without n fact) (least_price over_numbers (add_round unaries start without n) fact unaries) (before fact)
         (below_least v (add_round unaries start without n) fact without unaries before stays closed)
 
--- What is reached costs what it does so far, what is left out is infinite, and all else costs so much.
-abbrev bound : Settlement → Estimate → ℕ → Estimate
-bound t top fact = if is_reached t fact then value_at t.costs fact else (if is_left_out t fact then Infinite else top)
+-- what facts cost so far, at most so much
+abbrev upto : Settlement → Estimate → ℕ → Estimate
+upto t top fact = least (value_at t.costs fact) top
 
--- all else costs no less, and what is reached no more
+-- what is reached costs no more, and all else no less
 record Bounds (t : Settlement) (top : Estimate) : Type 0 where
   capped : IsCapped top
   below : (fact : ℕ) → is_reached t fact ≡ true → IsAtMost (value_at t.costs fact) top
-  above : (fact : ℕ) → is_reached t fact ≡ false → is_left_out t fact ≡ false → IsAtMost top (value_at t.costs fact)
+  above : (fact : ℕ) → is_reached t fact ≡ false → IsAtMost top (value_at t.costs fact)
 
-left_more : (top a b : Estimate) → IsCapped top → IsAtMost top a → IsAtMost top (estimate_sum a b)
-left_more (Finite n) (Finite a) (Finite b) capped le = omega arith
-left_more (Finite n) (Finite a) Infinite capped le = tt
-left_more (Finite n) Infinite b capped le = tt
-left_more Infinite (Finite a) b capped le = absurd le
-left_more Infinite Infinite b capped le = tt
-
-right_more : (top a b : Estimate) → IsCapped top → IsAtMost top b → IsAtMost top (estimate_sum a b)
-right_more (Finite n) (Finite a) (Finite b) capped le = omega arith
-right_more (Finite n) (Finite a) Infinite capped le = tt
-right_more (Finite n) Infinite b capped le = tt
-right_more Infinite a (Finite b) capped le = absurd le
-right_more Infinite (Finite a) Infinite capped le = tt
-right_more Infinite Infinite Infinite capped le = tt
-
-top_below : (t : Settlement) (top : Estimate) (fact : ℕ) → is_reached t fact ≡ false → IsAtMost top (bound t top fact)
-top_below t top fact not_there = by_test (is_reached t fact) (is_left_out t fact) not_there
-  where
-    by_test : (a b : Bool) → a ≡ false → IsAtMost top (if a then value_at t.costs fact else (if b then Infinite else top))
-    by_test true b is = let k : true ≡ false = is in absurd cc
-    by_test false true is = at_most_infinite top
-    by_test false false is = at_most_self top
-
-below_top : (t : Settlement) (top : Estimate) (fact : ℕ) → Bounds t top → is_left_out t fact ≡ false → IsAtMost (bound t top fact) top
-below_top t top fact p kept = by_test (is_reached t fact) (is_left_out t fact) refl kept
-  where
-    by_test : (a b : Bool) → is_reached t fact ≡ a → b ≡ false → IsAtMost (if a then value_at t.costs fact else (if b then Infinite else top)) top
-    by_test true b is kept = p.below fact is
-    by_test false true is kept = let k : true ≡ false = kept in absurd cc
-    by_test false false is kept = at_most_self top
+least_is : (a b : Estimate) → IsAtMost a b → least a b ≡ a
+least_is a b le = at_most_both (least a b) a (least_left a b) (both_at_least a a b (at_most_self a) le)
 
 -- where some condition isn't reached the sum is no less
-some_more : (t : Settlement) (top : Estimate) (conds : List ℕ) → IsCapped top → list_all (is_reached t) conds ≡ false → IsAtMost top (total (bound t top) conds)
-some_more t top [] capped some = let k : true ≡ false = some in absurd cc
-some_more t top (c ∷ conds) capped some = by_test (is_reached t c) refl some (λ rest. some_more t top conds capped rest)
+some_more : (t : Settlement) (top : Estimate) (conds : List ℕ) → Bounds t top → 0 < summed (one_open t) conds → IsAtMost top (total (upto t top) conds)
+some_more t top [] p some = absurd (omega arith)
+some_more t top (c ∷ conds) p some = by_test (is_reached t c) refl some (λ rest. some_more t top conds p rest)
   where
-    by_test : (b : Bool) → is_reached t c ≡ b → (b && list_all (is_reached t) conds) ≡ false → (list_all (is_reached t) conds ≡ false → IsAtMost top (total (bound t top) conds)) → IsAtMost top (total (bound t top) (c ∷ conds))
-    by_test true is some rest = right_more top (bound t top c) (total (bound t top) conds) capped (rest some)
-    by_test false is some rest = left_more top (bound t top c) (total (bound t top) conds) capped (top_below t top c is)
+    by_test : (b : Bool) → is_reached t c ≡ b → 0 < one_if (not b) + summed (one_open t) conds → (0 < summed (one_open t) conds → IsAtMost top (total (upto t top) conds)) → IsAtMost top (total (upto t top) (c ∷ conds))
+    by_test true is some rest = at_most_trans top (total (upto t top) conds) (total (upto t top) (c ∷ conds)) (rest (omega arith)) (plus_right (upto t top c) (total (upto t top) conds) (sum_capped (upto t top) conds))
+    by_test false is some rest =
+        let here = at_most_both (upto t top c) top (least_right (value_at t.costs c) top) (both_at_least top (value_at t.costs c) top (p.above c is) (at_most_self top)) in
+        rw here (plus_left top (total (upto t top) conds) p.capped)
 
-reached_bound : (t : Settlement) (top : Estimate) (fact : ℕ) → is_reached t fact ≡ true → bound t top fact ≡ value_at t.costs fact
-reached_bound t top fact is = rw is refl
+reached_value : (t : Settlement) (fact : ℕ) → is_reached t fact ≡ true → value_at t.costs fact ≡ Finite (cost_at t fact)
+reached_value t fact is = finite_is (cost_at t fact) (reached_small t fact is).1
 
 sum_same : (v w : ℕ → Estimate) (p : ℕ → Bool) (facts : List ℕ) → ((fact : ℕ) → p fact ≡ true → v fact ≡ w fact) → list_all p facts ≡ true → total v facts ≡ total w facts
 sum_same v w p [] same all = refl
-sum_same v w p (f ∷ facts) same all =
-    let parts = both (p f) (list_all p facts) all in
-    ap (λ (e : Estimate). estimate_sum e (total v facts)) (same f parts.0) ∙ ap (λ (e : Estimate). estimate_sum (w f) e) (sum_same v w p facts same parts.1)
+sum_same v w p (f ∷ facts) same all = let parts = both (p f) (list_all p facts) all in rw (same f parts.0, sum_same v w p facts same parts.1) refl
 
--- what is asked for by one with all conditions reached
-pub price_sum : (unaries : List Unary) (level place : ℕ) (t : Settlement) (u : Unary) → slice_get unaries place ≡ Some u → list_all (is_reached t) u.conds ≡ true → IsUnderWay unaries level [] t →
-    ((open_at t place).count ≡ 0) × (price (value_at t.costs) u ≡ Finite (open_at t place).sum)
-price_sum unaries level place t u at all way =
-    let was = way.each place u at in
-    let count = was.count in
-    let sum = was.sum in
-    let small = was.small in
-    let none = some_unreached (is_reached t) u.conds all in
-    (omega (arith, count, none), price_paid t u all ∙ ap (λ (n : ℕ). Finite n) (omega (arith, sum, small)))
-
-closed : (unaries : List Unary) (without : List ℕ) (level : ℕ) (t : Settlement) (top : Estimate) → ((fact : ℕ) → is_left_out t fact ≡ is_among without fact) → Bounds t top → IsUnderWay unaries level [] t → IsClosed unaries without (bound t top)
-closed unaries without level t top out p way i u at stays = by_test (list_all (is_reached t) u.conds) refl
+-- no unary operator lowers what facts cost up to a bound
+closed : (unaries : List Unary) (without : List ℕ) (level : ℕ) (t : Settlement) (top : Estimate) → ((fact : ℕ) → is_left_out t fact ≡ is_among without fact) → Bounds t top → IsUnderWay unaries level [] t → IsClosed unaries without (upto t top)
+closed unaries without level t top out p way i u at stays = elim (cases_lt 0 (open_at t i).count) [
+  | inl some ↦
+      let count = was.count in
+      at_most_trans (upto t top u.gives) top (price (upto t top) u) (least_right (value_at t.costs u.gives) top)
+      (at_most_trans top (total (upto t top) u.conds) (price (upto t top) u) (some_more t top u.conds p (omega arith)) (plus_right (Finite u.cost) (total (upto t top) u.conds) (sum_capped (upto t top) u.conds)))
+  | inr none ↦
+      let le = was.offered (omega arith) (out u.gives ∙ stays) in
+      let small = was.small in
+      let asks = price_sum unaries level i t (upto t top) u at (λ fact is. least_is (value_at t.costs fact) top (p.below fact is) ∙ reached_value t fact is) (omega arith) way in
+      let value = finite_is (cost_at t u.gives) (omega arith) in
+      let here : IsAtMost (value_at t.costs u.gives) (Finite (open_at t i).sum) = rw value le in
+      rw asks (at_most_trans (upto t top u.gives) (value_at t.costs u.gives) (Finite (open_at t i).sum) (least_left (value_at t.costs u.gives) top) here)
+]
   where
-    kept : is_left_out t u.gives ≡ false
-    kept = out u.gives ∙ stays
-
-    gives_less : (b : Bool) → is_reached t u.gives ≡ b → cost_at t u.gives ≤ (open_at t i).sum → (open_at t i).sum ≤ 1000000000 → IsAtMost (bound t top u.gives) (Finite (open_at t i).sum)
-    gives_less true is le small =
-        let here : bound t top u.gives ≡ Finite (cost_at t u.gives) = reached_bound t top u.gives is ∙ finite_is (cost_at t u.gives) (omega arith) in
-        rw here le
-    gives_less false is le small =
-        let value : value_at t.costs u.gives ≡ Finite (cost_at t u.gives) = finite_is (cost_at t u.gives) (omega arith) in
-        let over : IsAtMost top (Finite (cost_at t u.gives)) = rw value at (p.above u.gives is kept) in
-        at_most_trans (bound t top u.gives) top (Finite (open_at t i).sum) (below_top t top u.gives p kept) (at_most_trans top (Finite (cost_at t u.gives)) (Finite (open_at t i).sum) over le)
-
-    by_test : (b : Bool) → list_all (is_reached t) u.conds ≡ b → IsAtMost (bound t top u.gives) (price (bound t top) u)
-    by_test true all =
-        let was = way.each i u at in
-        let asks = price_sum unaries level i t u at all way in
-        let same : price (bound t top) u ≡ Finite (open_at t i).sum = ap (λ (e : Estimate). estimate_sum (Finite u.cost) e) (sum_same (bound t top) (value_at t.costs) (is_reached t) u.conds (λ fact is. reached_bound t top fact is) all) ∙ asks.1 in
-        rw same (gives_less (is_reached t u.gives) refl (was.offered asks.0 kept) was.small)
-    by_test false some =
-        at_most_trans (bound t top u.gives) top (price (bound t top) u) (below_top t top u.gives p kept)
-        (right_more top (Finite u.cost) (total (bound t top) u.conds) p.capped (some_more t top u.conds p.capped some))
+    was : IsCounted t level [] i u
+    was = way.each i u at
 
 -- those that settled a fact are best
 all_best : (unaries : List Unary) (level : ℕ) (t : Settlement) (order : List ℕ) → ((place : ℕ) → is_among order place ≡ true → HasSettled unaries t place) → IsUnderWay unaries level [] t → (are_places (length unaries) order ≡ true) × AreBest unaries (value_at t.costs) (chosen unaries order)
@@ -166,12 +122,9 @@ all_best unaries level t (i ∷ order) each way =
     let here = each i (among i) in
     let rest = all_best unaries level t order (λ place is. each place (later place is)) way in
     let lt : nat_lt i (length unaries) ≡ true = lt-ltb i (length unaries) (slice_get_within unaries i here.unary here.at) in
-    let small = reached_small t here.unary.gives here.reached in
-    let count = (way.each i here.unary here.at).count in
-    let none = here.none_open in
-    let asks = price_sum unaries level i t here.unary here.at (all_reached (is_reached t) here.unary.conds (omega (arith, count, none))) way in
-    let value : value_at t.costs here.unary.gives ≡ Finite (cost_at t here.unary.gives) = finite_is (cost_at t here.unary.gives) small.1 in
-    let best : IsBest unaries (value_at t.costs) here.unary = record { place = i; at = here.at; finite = ap is_finite value; pays = asks.1 ∙ (ap (λ (n : ℕ). Finite n) (sym here.pays) ∙ sym value) } in
+    let asks = price_sum unaries level i t (value_at t.costs) here.unary here.at (reached_value t) here.none_open way in
+    let value = reached_value t here.unary.gives here.reached in
+    let best : IsBest unaries (value_at t.costs) here.unary = record { place = i; at = here.at; finite = ap is_finite value; pays = asks ∙ (ap (λ (n : ℕ). Finite n) (sym here.pays) ∙ sym value) } in
     (rw lt rest.0, rw here.at (best, rest.1))
   where
     among : (i : ℕ) → is_among (i ∷ order) i ≡ true
@@ -226,82 +179,62 @@ reached_attained unaries start without t fact is s from =
     first f among true out = (0, rw (outside f out) (at_most_infinite (add_round unaries start without 0 f)))
     first f among false stays = (0, rw (among, stays, from.first f among stays) (at_most_self (Finite 0)))
 
--- the facts of the start are reached at no cost
-first_bound : (unaries : List Unary) (start without : List ℕ) (t : Settlement) (top : Estimate) → IsFrom unaries without start t → (fact : ℕ) → is_started start without fact ≡ true → bound t top fact ≡ Finite 0
-first_bound unaries start without t top from fact begins =
-    let parts = both (is_among start fact) (not (is_among without fact)) begins in
-    let stays : is_among without fact ≡ false = denied (is_among without fact) parts.1 in
-    let among : is_among (start ++ given_by (chosen unaries t.order)) fact ≡ true = list_any-append (nat_eq fact) start (given_by (chosen unaries t.order)) ∙ ap (λ (b : Bool). b || is_among (given_by (chosen unaries t.order)) fact) parts.0 in
-    let is : is_reached t fact ≡ true = from.reached fact ∙ rw (among, stays) refl in
-    reached_bound t top fact is ∙ ap estimate_of (from.first fact parts.0 stays)
-
-exact_where : (unaries : List Unary) (start without : List ℕ) (level : ℕ) (t : Settlement) (top : Estimate) (fact : ℕ) → bound t top fact ≡ value_at t.costs fact → (n : ℕ) × IsAtMost (add_round unaries start without n fact) (value_at t.costs fact) → Bounds t top → IsUnderWay unaries level [] t →
+-- what costs no more than a bound is exact, where it is attained
+exact_where : (unaries : List Unary) (start without : List ℕ) (level : ℕ) (t : Settlement) (top : Estimate) (fact : ℕ) → IsAtMost (value_at t.costs fact) top → (n : ℕ) × IsAtMost (add_round unaries start without n fact) (value_at t.costs fact) → Bounds t top → IsUnderWay unaries level [] t →
     IsFrom unaries without start t → IsLeast (λ n. add_round unaries start without n fact) (value_at t.costs fact)
-exact_where unaries start without level t top fact same a p way from =
-    let below : (n : ℕ) → IsAtMost (value_at t.costs fact) (add_round unaries start without n fact) =
-    λ n. subst (λ (e : Estimate). IsAtMost e (add_round unaries start without n fact)) same (closed_is_below unaries start without (bound t top) (first_bound unaries start without t top from) (closed unaries without level t top from.out p way) n fact) in
-    record { round = a.0; is = at_most_both (add_round unaries start without a.0 fact) (value_at t.costs fact) a.1 (below a.0); least = below }
-
--- what isn't reached waits for no less than the level, or for nothing
-parts_at : (unaries : List Unary) (level : ℕ) (t : Settlement) → IsUnderWay unaries level [] t → Bounds t (Finite level)
-parts_at unaries level t way = record {
-  capped = way.level_small;
-  below = λ fact is. (let value = finite_is (cost_at t fact) (reached_small t fact is).1 in rw value (way.low fact is));
-  above = λ fact not_there kept. above fact (is_settled t fact) refl not_there kept;
-}
+exact_where unaries start without level t top fact le a p way from = record { round = a.0; is = at_most_both (add_round unaries start without a.0 fact) (value_at t.costs fact) a.1 (below a.0); least = below }
   where
-    either : (b : Bool) → (true && b) ≡ false → (true && not b) ≡ false → ⊥
-    either true is out = let k : true ≡ false = is in cc
-    either false is out = let k : true ≡ false = out in cc
+    first : (f : ℕ) → is_started start without f ≡ true → upto t top f ≡ Finite 0
+    first f begins =
+        let parts = both (is_among start f) (not (is_among without f)) begins in
+        let stays = denied (is_among without f) parts.1 in
+        let is = from.reached f ∙ rw (list_any-append (nat_eq f) start (given_by (chosen unaries t.order)), parts.0, stays) refl in
+        least_is (value_at t.costs f) top (p.below f is) ∙ ap estimate_of (from.first f parts.0 stays)
 
-    by_cost : (fact : ℕ) → is_settled t fact ≡ false → (b : Bool) → nat_le (cost_at t fact) 1000000000 ≡ b → IsAtMost (Finite level) (value_at t.costs fact)
-    by_cost fact new false large = rw (infinite_is (cost_at t fact) (leb-false (cost_at t fact) 1000000000 large)) tt
-    by_cost fact new true small =
-        let le : cost_at t fact ≤ 1000000000 = leb-true (cost_at t fact) 1000000000 small in
-        let w = way.wanted fact new le in
-        let waits = way.waits w.place (cost_at t fact) w.waits in
-        rw (finite_is (cost_at t fact) le) waits.above
+    below : (n : ℕ) → IsAtMost (value_at t.costs fact) (add_round unaries start without n fact)
+    below n = rw (least_is (value_at t.costs fact) top le) at (closed_is_below unaries start without (upto t top) first (closed unaries without level t top from.out p way) n fact)
 
-    above : (fact : ℕ) (b : Bool) → is_settled t fact ≡ b → is_reached t fact ≡ false → is_left_out t fact ≡ false → IsAtMost (Finite level) (value_at t.costs fact)
-    above fact true is not_there kept = absurd (either (nat_le (cost_at t fact) 1000000000) (rw is at not_there) (rw is at kept))
-    above fact false is not_there kept = by_cost fact is (nat_le (cost_at t fact) 1000000000) refl
+-- what isn't reached is infinite, or some unary operator waits for it
+unreached_is : (unaries : List Unary) (level : ℕ) (t : Settlement) (fact : ℕ) → is_reached t fact ≡ false → IsUnderWay unaries level [] t → (value_at t.costs fact ≡ Infinite) ⊎ ((value_at t.costs fact ≡ Finite (cost_at t fact)) × IsWanted unaries t fact)
+unreached_is unaries level t fact not_there way = by_cost (nat_le (cost_at t fact) 1000000000) refl (is_settled t fact) refl
+  where
+    by_cost : (b : Bool) → nat_le (cost_at t fact) 1000000000 ≡ b → (a : Bool) → is_settled t fact ≡ a → (value_at t.costs fact ≡ Infinite) ⊎ ((value_at t.costs fact ≡ Finite (cost_at t fact)) × IsWanted unaries t fact)
+    by_cost false large a is = inl (infinite_is (cost_at t fact) (leb-false (cost_at t fact) 1000000000 large))
+    by_cost true small true is = let k : true ≡ false = sym (rw (is, small) refl) ∙ not_there in absurd cc
+    by_cost true small false is = let le = leb-true (cost_at t fact) 1000000000 small in inr (finite_is (cost_at t fact) le, way.wanted fact is le)
 
 -- A fact that is reached costs what it does by the rounds, also where others are not settled yet.
 pub reached_exact : (unaries : List Unary) (start without : List ℕ) (t : Settlement) (fact : ℕ) → is_reached t fact ≡ true → IsSettling unaries t → IsFrom unaries without start t → IsLeast (λ n. add_round unaries start without n fact) (value_at t.costs fact)
-reached_exact unaries start without t fact is s from =
-    exact_where unaries start without s.level t (Finite s.level) fact (reached_bound t (Finite s.level) fact is) (reached_attained unaries start without t fact is s from) (parts_at unaries s.level t s.way) s.way from
+reached_exact unaries start without t fact is s from = exact_where unaries start without s.level t (Finite s.level) fact (below fact is) (reached_attained unaries start without t fact is s from) (record {
+  capped = s.way.level_small;
+  below = below;
+  above = λ f not_there. elim (unreached_is unaries s.level t f not_there s.way) [
+    | inl none ↦ rw none tt
+    | inr some ↦ rw some.0 (s.way.waits some.1.place (cost_at t f) some.1.waits).above
+  ];
+}) s.way from
+  where
+    below : (f : ℕ) → is_reached t f ≡ true → IsAtMost (value_at t.costs f) (Finite s.level)
+    below f is = rw (reached_value t f is) (s.way.low f is)
 
 -- where none waits, what isn't reached is infinite
 pub idle_infinite : (unaries : List Unary) (t : Settlement) (fact : ℕ) → IsIdle t.waiting → is_reached t fact ≡ false → IsSettling unaries t → value_at t.costs fact ≡ Infinite
-idle_infinite unaries t fact idle not_there s = by_cost (nat_le (cost_at t fact) 1000000000) refl (is_settled t fact) refl
-  where
-    by_cost : (b : Bool) → nat_le (cost_at t fact) 1000000000 ≡ b → (a : Bool) → is_settled t fact ≡ a → value_at t.costs fact ≡ Infinite
-    by_cost false large a is = infinite_is (cost_at t fact) (leb-false (cost_at t fact) 1000000000 large)
-    by_cost true small true is = let k : true ≡ false = sym (rw (is, small) refl) ∙ not_there in absurd cc
-    by_cost true small false is =
-        let w = s.way.wanted fact is (leb-true (cost_at t fact) 1000000000 small) in
-        let k : None ≡ Some (cost_at t fact) = sym (idle w.place) ∙ w.waits in
-        absurd cc
+idle_infinite unaries t fact idle not_there s = elim (unreached_is unaries s.level t fact not_there s.way) [
+  | inl none ↦ none
+  | inr some ↦ let k : None ≡ Some (cost_at t fact) = sym (idle some.1.place) ∙ some.1.waits in absurd cc
+]
 
 -- Where none waits, all facts cost what they do by the rounds.
 pub idle_exact : (unaries : List Unary) (start without : List ℕ) (t : Settlement) → IsIdle t.waiting → IsSettling unaries t → IsFrom unaries without start t → (fact : ℕ) → IsLeast (λ n. add_round unaries start without n fact) (value_at t.costs fact)
-idle_exact unaries start without t idle s from fact = exact_where unaries start without s.level t Infinite fact (same (is_reached t fact) (is_left_out t fact) refl) (attained (is_reached t fact) refl) parts s.way from
+idle_exact unaries start without t idle s from fact = exact_where unaries start without s.level t Infinite fact (at_most_infinite (value_at t.costs fact)) (attained (is_reached t fact) refl) (record {
+  capped = tt;
+  below = λ f is. at_most_infinite (value_at t.costs f);
+  above = λ f not_there. rw (idle_infinite unaries t f idle not_there s) tt;
+}) s.way from
   where
-    same : (a b : Bool) → is_reached t fact ≡ a → (if a then value_at t.costs fact else (if b then Infinite else Infinite)) ≡ value_at t.costs fact
-    same true b is = refl
-    same false true is = sym (idle_infinite unaries t fact idle is s)
-    same false false is = sym (idle_infinite unaries t fact idle is s)
-
     attained : (a : Bool) → is_reached t fact ≡ a → (n : ℕ) × IsAtMost (add_round unaries start without n fact) (value_at t.costs fact)
     attained true is = reached_attained unaries start without t fact is s from
     attained false is = (0, rw (idle_infinite unaries t fact idle is s) (at_most_infinite (add_round unaries start without 0 fact)))
-
-    parts : Bounds t Infinite
-    parts = record {
-      capped = tt;
-      below = λ f is. at_most_infinite (value_at t.costs f);
-      above = λ f not_there kept. rw (idle_infinite unaries t f idle not_there s) tt;
-    }
 
 pub order_of : (unaries : List Unary) (start : List ℕ) (t : Settlement) → IsIdle t.waiting → IsSettling unaries t → IsFrom unaries [] start t → IsOrder unaries start (value_at t.costs) t.order
 order_of unaries start t idle s from =

@@ -1,5 +1,5 @@
 -- What is reached, counted and paid.
-use Rattle.std.proofs.Common.{◌≡◌, ◌≢◌, ◌∙◌, sym, ap, refl, ℕ, ◌+◌, ◌*◌, ◌<◌, ◌≤◌, ◌⊎◌, inl, inr, List, [], ◌∷◌, get_or, min, Bool, true, false, nat_eq, nat_le, not, ◌&&◌, ◌||◌, arith}
+use Rattle.std.proofs.Common.{◌≡◌, ◌≢◌, ◌∙◌, sym, ap, refl, ℕ, ◌+◌, ◌*◌, ◌<◌, ◌≤◌, ◌⊎◌, inl, inr, List, [], ◌∷◌, get_or, min, Bool, true, false, nat_eq, nat_le, not, ◌&&◌, ◌||◌, arith, length, Some, slice_get, if◌then◌else◌}
 use Rattle.std.specs.List.{list_all}
 use Rattle.std.proofs.lemmas.Bool.{eq-eqb, le-leb, lt-leb, leb-true}
 use Rattle.cost_queue.specs.Occurrences.{one_if, occurrences}
@@ -11,8 +11,8 @@ use Rattle.relaxed_task.specs.Elements.{places, join}
 use Rattle.relaxed_task.specs.Relaxing.{sum_of as total}
 use Rattle.h_add.specs.ByNumber.{price}
 use Rattle.relaxed_task.specs.declared.unary.Unary.{Unary}
-use Rattle.h_add.specs.Settlements.{Settlement, cost_at, is_settled, is_reached, is_left_out}
-use Rattle.h_add.specs.UnderWay.{unreached, paid}
+use Rattle.h_add.specs.Settlements.{Settlement, cost_at, is_settled, is_reached, is_left_out, open_at}
+use Rattle.h_add.specs.UnderWay.{one_open, share, summed, IsUnderWay}
 use Rattle.h_add.specs.Values.{estimate_of, value_at}
 
 -- tests that are decided
@@ -47,89 +47,48 @@ unsettled_not t fact is = (rw is refl, rw is refl)
 
 -- where settled facts cost the same, the same is reached
 pub reached_same : (t u : Settlement) → u.settled ≡ t.settled → ((fact : ℕ) → is_settled t fact ≡ true → cost_at u fact ≡ cost_at t fact) →
-    (fact : ℕ) → (is_reached u fact ≡ is_reached t fact) × (is_left_out u fact ≡ is_left_out t fact)
+    (fact : ℕ) → (is_reached u fact ≡ is_reached t fact) × (is_left_out u fact ≡ is_left_out t fact) × (share u fact ≡ share t fact)
 reached_same t u settled kept fact = by_test (is_settled t fact) refl
   where
     same : is_settled u fact ≡ is_settled t fact
     same = ap (λ (fs : List Bool). get_or fs fact false) settled
 
-    by_test : (b : Bool) → is_settled t fact ≡ b → (is_reached u fact ≡ is_reached t fact) × (is_left_out u fact ≡ is_left_out t fact)
-    by_test true is = let cost = kept fact is in (rw (same, cost) refl, rw (same, cost) refl)
-    by_test false is = let now : is_settled u fact ≡ false = same ∙ is in (rw (now, is) refl, rw (now, is) refl)
+    by_test : (b : Bool) → is_settled t fact ≡ b → (is_reached u fact ≡ is_reached t fact) × (is_left_out u fact ≡ is_left_out t fact) × (share u fact ≡ share t fact)
+    by_test true is = let cost = kept fact is in (rw (same, cost) refl, rw (same, cost) refl, rw (same, cost) refl)
+    by_test false is = let now : is_settled u fact ≡ false = same ∙ is in (rw (now, is) refl, rw (now, is) refl, rw (now, is) refl)
 
-one_times : (b : Bool) (x y : ℕ) → (b ≡ true → x ≡ y) → one_if b * x ≡ one_if b * y
-one_times true x y same = ap (λ (n : ℕ). 1 * n) (same refl)
-one_times false x y same = omega arith
-
-pub paid_same : (p q : ℕ → Bool) (x y : ℕ → ℕ) (conds : List ℕ) → ((fact : ℕ) → p fact ≡ q fact) → ((fact : ℕ) → q fact ≡ true → x fact ≡ y fact) → paid p x conds ≡ paid q y conds
-paid_same p q x y [] same costs = refl
-paid_same p q x y (c ∷ conds) same costs =
-    let rest = paid_same p q x y conds same costs in
-    let here : one_if (p c) * x c ≡ one_if (q c) * y c = ap (λ (b : Bool). one_if b * x c) (same c) ∙ one_times (q c) (x c) (y c) (costs c) in
-    omega (arith, here, rest)
-
--- a fact more is reached
-pub unreached_less : (p q : ℕ → Bool) (fact : ℕ) (conds : List ℕ) → p fact ≡ false → q fact ≡ true → ((f : ℕ) → f ≢ fact → q f ≡ p f) → unreached p conds ≡ unreached q conds + occurrences fact conds
-unreached_less p q fact [] old new others = refl
-unreached_less p q fact (c ∷ conds) old new others = by_place (places fact c) (unreached_less p q fact conds old new others)
-  where
-    by_place : ((fact ≡ c) × (nat_eq fact c ≡ true)) ⊎ ((fact ≢ c) × (nat_eq fact c ≡ false)) → unreached p conds ≡ unreached q conds + occurrences fact conds →
-        unreached p (c ∷ conds) ≡ unreached q (c ∷ conds) + occurrences fact (c ∷ conds)
-    by_place (inl here) rest =
-        let was : one_if (not (p c)) ≡ 1 = ap (λ (b : Bool). one_if (not b)) (ap p (sym here.0) ∙ old) in
-        let is : one_if (not (q c)) ≡ 0 = ap (λ (b : Bool). one_if (not b)) (ap q (sym here.0) ∙ new) in
-        let one : one_if (nat_eq fact c) ≡ 1 = ap one_if here.1 in
-        omega arith
-    by_place (inr there) rest =
-        let same : one_if (not (q c)) ≡ one_if (not (p c)) = ap (λ (b : Bool). one_if (not b)) (others c (λ e. there.0 (sym e))) in
-        let none : one_if (nat_eq fact c) ≡ 0 = ap one_if there.1 in
-        omega arith
-
-pub paid_more : (p q : ℕ → Bool) (x y : ℕ → ℕ) (fact : ℕ) (conds : List ℕ) → p fact ≡ false → q fact ≡ true → ((f : ℕ) → f ≢ fact → q f ≡ p f) → ((f : ℕ) → f ≢ fact → y f ≡ x f) →
-    paid q y conds ≡ paid p x conds + occurrences fact conds * y fact
-paid_more p q x y fact [] old new others costs = omega arith
-paid_more p q x y fact (c ∷ conds) old new others costs = by_place (places fact c) (paid_more p q x y fact conds old new others costs)
-  where
-    by_place : ((fact ≡ c) × (nat_eq fact c ≡ true)) ⊎ ((fact ≢ c) × (nat_eq fact c ≡ false)) → paid q y conds ≡ paid p x conds + occurrences fact conds * y fact →
-        paid q y (c ∷ conds) ≡ paid p x (c ∷ conds) + occurrences fact (c ∷ conds) * y fact
-    by_place (inl here) rest =
-        let was : one_if (p c) * x c ≡ 0 = ap (λ (b : Bool). one_if b * x c) (ap p (sym here.0) ∙ old) ∙ omega arith in
-        let is : one_if (q c) * y c ≡ y fact = ap (λ (b : Bool). one_if b * y c) (ap q (sym here.0) ∙ new) ∙ (omega arith ∙ ap y (sym here.0)) in
-        let one : (one_if (nat_eq fact c) + occurrences fact conds) * y fact ≡ y fact + occurrences fact conds * y fact = ap (λ (b : Bool). (one_if b + occurrences fact conds) * y fact) here.1 ∙ omega arith in
-        omega (arith, was, is, one, rest)
-    by_place (inr there) rest =
-        let ne : c ≢ fact = λ e. there.0 (sym e) in
-        let same : one_if (q c) * y c ≡ one_if (p c) * x c = ap (λ (b : Bool). one_if b * y c) (others c ne) ∙ ap (λ (n : ℕ). one_if (p c) * n) (costs c ne) in
-        let none : (one_if (nat_eq fact c) + occurrences fact conds) * y fact ≡ occurrences fact conds * y fact = ap (λ (b : Bool). (one_if b + occurrences fact conds) * y fact) there.1 ∙ omega arith in
-        omega (arith, same, none, rest)
+-- a sum where one summand changed
+pub sum_changed : (f g : ℕ → ℕ) (fact x y : ℕ) (conds : List ℕ) → f fact ≡ x → g fact ≡ y → ((c : ℕ) → c ≢ fact → g c ≡ f c) → summed g conds + occurrences fact conds * x ≡ summed f conds + occurrences fact conds * y
+sum_changed f g fact x y [] was is others = omega arith
+sum_changed f g fact x y (c ∷ conds) was is others =
+    let rest = sum_changed f g fact x y conds was is others in
+    elim (places fact c) [
+      | inl here ↦ let before = ap f (sym here.0) ∙ was in let now = ap g (sym here.0) ∙ is in rw here.1 (omega (arith, rest, before, now))
+      | inr there ↦ let same = others c (λ e. there.0 (sym e)) in rw there.1 (omega (arith, rest, same))
+    ]
 
 -- all conditions are reached where none is open
-pub all_reached : (p : ℕ → Bool) (conds : List ℕ) → unreached p conds ≡ 0 → list_all p conds ≡ true
-all_reached p [] none = refl
-all_reached p (c ∷ conds) none = by_test (p c) refl none (λ rest. all_reached p conds rest)
+pub all_reached : (t : Settlement) (conds : List ℕ) → summed (one_open t) conds ≡ 0 → list_all (is_reached t) conds ≡ true
+all_reached t [] none = refl
+all_reached t (c ∷ conds) none = by_test (is_reached t c) none (λ rest. all_reached t conds rest)
   where
-    by_test : (b : Bool) → p c ≡ b → one_if (not b) + unreached p conds ≡ 0 → (unreached p conds ≡ 0 → list_all p conds ≡ true) → (p c && list_all p conds) ≡ true
-    by_test true is none rest = join (p c) (list_all p conds) is (rest (omega arith))
-    by_test false is none rest = absurd (omega arith)
+    by_test : (b : Bool) → one_if (not b) + summed (one_open t) conds ≡ 0 → (summed (one_open t) conds ≡ 0 → list_all (is_reached t) conds ≡ true) → (b && list_all (is_reached t) conds) ≡ true
+    by_test true none rest = rest (omega arith)
+    by_test false none rest = absurd (omega arith)
 
-pub some_unreached : (p : ℕ → Bool) (conds : List ℕ) → list_all p conds ≡ true → unreached p conds ≡ 0
-some_unreached p [] all = refl
-some_unreached p (c ∷ conds) all =
-    let parts = both (p c) (list_all p conds) all in
-    let here : one_if (not (p c)) ≡ 0 = ap (λ (b : Bool). one_if (not b)) parts.0 in
-    let rest = some_unreached p conds parts.1 in
-    omega arith
+-- what is paid for conditions, all reached, is their sum
+pub total_paid : (v : ℕ → Estimate) (t : Settlement) (conds : List ℕ) → ((fact : ℕ) → is_reached t fact ≡ true → v fact ≡ Finite (cost_at t fact)) → summed (one_open t) conds ≡ 0 → total v conds ≡ Finite (min (summed (share t) conds) 1000000000)
+total_paid v t [] each none = refl
+total_paid v t (c ∷ conds) each none =
+    let parts = both (is_reached t c) (list_all (is_reached t) conds) (all_reached t (c ∷ conds) none) in
+    let paid : share t c ≡ cost_at t c = rw parts.0 refl in
+    rw (each c parts.0, total_paid v t conds each (omega arith)) (ap (λ (n : ℕ). Finite n) (omega (arith, paid)))
 
--- what is paid for reached conditions is their sum
-pub total_paid : (t : Settlement) (conds : List ℕ) → list_all (is_reached t) conds ≡ true → total (value_at t.costs) conds ≡ Finite (min (paid (is_reached t) (cost_at t) conds) 1000000000)
-total_paid t [] all = refl
-total_paid t (c ∷ conds) all =
-    let parts = both (is_reached t c) (list_all (is_reached t) conds) all in
-    let small = reached_small t c parts.0 in
-    let here : value_at t.costs c ≡ Finite (cost_at t c) = finite_is (cost_at t c) small.1 in
-    let rest = total_paid t conds parts.1 in
-    let one : one_if (is_reached t c) * cost_at t c ≡ cost_at t c = ap (λ (b : Bool). one_if b * cost_at t c) parts.0 ∙ omega arith in
-    ap (λ (e : Estimate). estimate_sum e (total (value_at t.costs) conds)) here ∙ (ap (λ (e : Estimate). estimate_sum (Finite (cost_at t c)) e) rest ∙ ap (λ (n : ℕ). Finite n) (omega (arith, one)))
-
-pub price_paid : (t : Settlement) (u : Unary) → list_all (is_reached t) u.conds ≡ true → price (value_at t.costs) u ≡ Finite (min (u.cost + paid (is_reached t) (cost_at t) u.conds) 1000000000)
-price_paid t u all = ap (λ (e : Estimate). estimate_sum (Finite u.cost) e) (total_paid t u.conds all) ∙ ap (λ (n : ℕ). Finite n) (omega arith)
+-- what is asked for by one with all conditions reached
+pub price_sum : (unaries : List Unary) (level place : ℕ) (t : Settlement) (v : ℕ → Estimate) (u : Unary) → slice_get unaries place ≡ Some u → ((fact : ℕ) → is_reached t fact ≡ true → v fact ≡ Finite (cost_at t fact)) → (open_at t place).count ≡ 0 → IsUnderWay unaries level [] t →
+    price v u ≡ Finite (open_at t place).sum
+price_sum unaries level place t v u at each none way =
+    let was = way.each place u at in
+    let count = was.count in
+    let sum = was.sum in
+    rw (total_paid v t u.conds each (omega arith)) (ap (λ (n : ℕ). Finite n) (let small = was.small in omega arith))

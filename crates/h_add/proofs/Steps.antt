@@ -13,8 +13,8 @@ use Rattle.relaxed_task.specs.Numbers.{is_among, is_below}
 use Rattle.relaxed_task.specs.declared.unary.Unary.{Unary}
 use Rattle.h_add.specs.declared.network.Open.{Open}
 use Rattle.h_add.specs.Settlements.{Settlement, cost_at, is_settled, is_reached, is_left_out, open_at, unsettled, given_at, there_at}
-use Rattle.h_add.specs.UnderWay.{unreached, paid, IsCounted, IsWaiting, IsWanted, HasSettled, IsUnderWay, left_to_do, IsFrom, HasCounted, IsSettling, IsLater, IsFresh, HasMarked}
-use Rattle.h_add.proofs.Reaching.{reached_small, unsettled_not, unreached_less, paid_more, or_false, reached_same, all_reached, and_true, or_true}
+use Rattle.h_add.specs.UnderWay.{one_open, share, summed, IsCounted, IsWaiting, IsWanted, HasSettled, IsUnderWay, left_to_do, IsFrom, HasCounted, IsSettling, IsLater, IsFresh, HasMarked}
+use Rattle.h_add.proofs.Reaching.{reached_small, unsettled_not, sum_changed, or_false, reached_same, all_reached, and_true, or_true}
 use Rattle.std.specs.List.{list_all}
 use Rattle.std.proofs.Math.Path.{fun_ext}
 use Rattle.std.proofs.lemmas.Option.{slice_get_within, get_or_from_slice_get}
@@ -103,9 +103,9 @@ settle_way unaries level t fact cost waiting order row within in_flags new cheap
         let count_was = was.count in
         let sum_was = was.sum in
         let as_often = needed place u at in
-        let fewer = unreached_less (is_reached t) (is_reached (after t fact cost waiting order)) fact u.conds was_not r.reached r.reached_there in
-        let more = paid_more (is_reached t) (is_reached (after t fact cost waiting order)) (cost_at t) (cost_at (after t fact cost waiting order)) fact u.conds was_not r.reached r.reached_there r.cost_there in
-        let times : occurrences fact u.conds * cost_at (after t fact cost waiting order) fact ≡ occurrences place row * cost = ap (λ (n : ℕ). occurrences fact u.conds * n) r.cost_is ∙ ap (λ (n : ℕ). n * cost) (sym as_often) in
+        let fewer = sum_changed (one_open t) (one_open (after t fact cost waiting order)) fact 1 0 u.conds (rw was_not refl) (rw r.reached refl) (λ c ne. ap (λ (b : Bool). one_if (not b)) (r.reached_there c ne)) in
+        let more = sum_changed (share t) (share (after t fact cost waiting order)) fact 0 cost u.conds (rw was_not refl) (rw r.reached r.cost_is) (λ c ne. rw (r.reached_there c ne, r.cost_there c ne) refl) in
+        let times = ap (λ (n : ℕ). n * cost) as_often in
         record {
           count = omega (arith, count_was, fewer, as_often);
           sum = omega (arith, sum_was, more, times);
@@ -344,7 +344,7 @@ from_given unaries without had level t waiting entry u at within in_flags taken 
     let p = taken_pays unaries level t waiting entry u at taken new way in
     let count = (way.each entry.number u at).count in
     let none = p.none_open in
-    let conds = all_reached (is_reached t) u.conds (omega (arith, count, none)) in
+    let conds = all_reached t u.conds (omega (arith, count, none)) in
     let grows = chosen_grows unaries t.order entry.number u at in
     from_settled unaries without had had (t.order ++ entry.number ∷ []) t u.gives entry.price waiting within in_flags new p.small
     (λ f. ap (λ (list : List Unary). is_among (had ++ given_by list) f) grows ∙ (split f ∙ ap (λ (b : Bool). is_among (had ++ given_by (chosen unaries t.order)) f || b) (or_false (nat_eq f u.gives)))) (λ f among. inl among)
@@ -370,7 +370,7 @@ from_counted unaries without had t now counted from = record {
   in_order = subst (λ (order : List ℕ). IsInOrder had (chosen unaries order)) (sym counted.order) from.in_order;
 }
   where
-    same : (fact : ℕ) → (is_reached now fact ≡ is_reached t fact) × (is_left_out now fact ≡ is_left_out t fact)
+    same : (fact : ℕ) → (is_reached now fact ≡ is_reached t fact) × (is_left_out now fact ≡ is_left_out t fact) × (share now fact ≡ share t fact)
     same = reached_same t now counted.settled counted.kept
 
     settled : (fact : ℕ) → is_among had fact ≡ true → is_among without fact ≡ false → is_settled t fact ≡ true
@@ -495,13 +495,9 @@ none_reached unaries t f fact = let large = lt-leb (cost_at t fact) 1000000000 (
     never true = refl
     never false = refl
 
-all_unreached : (p : ℕ → Bool) (conds : List ℕ) → ((fact : ℕ) → p fact ≡ false) → unreached p conds ≡ length conds
-all_unreached p [] none = refl
-all_unreached p (c ∷ conds) none = let rest = all_unreached p conds none in let here : one_if (not (p c)) ≡ 1 = ap (λ (b : Bool). one_if (not b)) (none c) in omega arith
-
-none_paid : (p : ℕ → Bool) (x : ℕ → ℕ) (conds : List ℕ) → ((fact : ℕ) → p fact ≡ false) → paid p x conds ≡ 0
-none_paid p x [] none = refl
-none_paid p x (c ∷ conds) none = let rest = none_paid p x conds none in let here : one_if (p c) * x c ≡ 0 = ap (λ (b : Bool). one_if b * x c) (none c) ∙ omega arith in omega (arith, rest, here)
+none_summed : (f : ℕ → ℕ) (n : ℕ) (conds : List ℕ) → ((fact : ℕ) → f fact ≡ n) → summed f conds ≡ length conds * n
+none_summed f n [] same = omega arith
+none_summed f n (c ∷ conds) same = let rest = none_summed f n conds same in let here = same c in omega (arith, rest, here)
 
 -- a fresh evaluation is under way, where those without conditions are owed
 pub fresh_way : (unaries : List Unary) (t : Settlement) (row : List ℕ) → AreFree unaries row → IsFresh unaries t → IsUnderWay unaries 0 row t
@@ -521,8 +517,8 @@ fresh_way unaries t row free f = record {
         let count : (open_at t place).count ≡ max (length u.conds) 1 = ap (λ (o : Open). o.count) is in
         let sum : (open_at t place).sum ≡ min u.cost 1000000000 = ap (λ (o : Open). o.sum) is in
         let once = free place u at in
-        let open_all = all_unreached (is_reached t) u.conds (none_reached unaries t f) in
-        let nothing = none_paid (is_reached t) (cost_at t) u.conds (none_reached unaries t f) in
+        let open_all = none_summed (one_open t) 1 u.conds (λ fact. rw (none_reached unaries t f fact) refl) in
+        let nothing = none_summed (share t) 0 u.conds (λ fact. rw (none_reached unaries t f fact) refl) in
         record {
           count = omega (arith, count, once, open_all);
           sum = omega (arith, sum, nothing);

@@ -1,5 +1,5 @@
 -- What is true of an evaluation under way.
-use Rattle.std.specs.Prelude.{◌≡◌, ℕ, ◌+◌, ◌*◌, ◌≤◌, ◌<◌, List, [], ◌∷◌, ◌++◌, length, map, min, Bool, true, false, not, ◌&&◌, ◌⊎◌, slice_get, Some}
+use Rattle.std.specs.Prelude.{◌≡◌, ℕ, ◌+◌, ◌*◌, ◌≤◌, ◌<◌, List, [], ◌∷◌, ◌++◌, length, map, min, Bool, true, false, not, ◌&&◌, ◌⊎◌, slice_get, Some, if◌then◌else◌}
 use Rattle.std.specs.List.{list_all}
 use Rattle.cost_queue.specs.Occurrences.{one_if, occurrences}
 use Rattle.cost_queue.specs.Queues.{price_of, waiting_count, IsIdle}
@@ -10,21 +10,23 @@ use Rattle.h_add.specs.Networks.{open_at_start}
 use Rattle.h_add.specs.Orders.{chosen, given_by}
 use Rattle.h_add.specs.Settlements.{Settlement, cost_at, is_settled, is_reached, is_left_out, open_at, unsettled}
 
--- how many of some facts aren't reached
-abbrev pub unreached : (ℕ → Bool) → List ℕ → ℕ
-unreached reached [] = 0
-unreached reached (c ∷ conds) = one_if (not (reached c)) + unreached reached conds
+-- a condition that isn't reached is open
+abbrev pub one_open : Settlement → ℕ → ℕ
+one_open t fact = one_if (not (is_reached t fact))
 
--- what those cost that are reached
-abbrev pub paid : (ℕ → Bool) → (ℕ → ℕ) → List ℕ → ℕ
-paid reached cost [] = 0
-paid reached cost (c ∷ conds) = one_if (reached c) * cost c + paid reached cost conds
+-- what is paid for a fact that is reached
+abbrev pub share : Settlement → ℕ → ℕ
+share t fact = if is_reached t fact then cost_at t fact else 0
+
+abbrev pub summed : (ℕ → ℕ) → List ℕ → ℕ
+summed f [] = 0
+summed f (c ∷ conds) = f c + summed f conds
 
 -- A unary operator has counted the conditions that are reached, but for those that are owed at a cost. One that has none open has offered
 -- what it gives.
 pub record IsCounted (t : Settlement) (level : ℕ) (owed : List ℕ) (place : ℕ) (u : Unary) : Type 0 where
-  pub count : (open_at t place).count ≡ unreached (is_reached t) u.conds + occurrences place owed
-  pub sum : min ((open_at t place).sum + occurrences place owed * level) 1000000000 ≡ min (u.cost + paid (is_reached t) (cost_at t) u.conds) 1000000000
+  pub count : (open_at t place).count ≡ summed (one_open t) u.conds + occurrences place owed
+  pub sum : min ((open_at t place).sum + occurrences place owed * level) 1000000000 ≡ min (u.cost + summed (share t) u.conds) 1000000000
   pub small : (open_at t place).sum ≤ 1000000000
   pub offered : (open_at t place).count ≡ 0 → is_left_out t u.gives ≡ false → cost_at t u.gives ≤ (open_at t place).sum
 
