@@ -1,5 +1,6 @@
 -- One unary operator counts a fact.
 use Rattle.std.proofs.Common.{◌≡◌, ◌≢◌, ◌∙◌, sym, ap, subst, refl, ℕ, zero, suc, ◌+◌, ◌-◌, ◌*◌, ◌<◌, ◌≤◌, ◌⊎◌, inl, inr, List, [], ◌∷◌, length, get_or, drop, min, Bool, true, false, nat_eq, nat_lt, nat_le, not, ◌&&◌, arith, Option, Some, None, slice_get, slice_set, get_or-set_other, get_or-set_same, if◌then◌else◌}
+use Rattle.std.proofs.Math.Bool.{and-true}
 use Rattle.std.proofs.Math.Path.{fun_ext}
 use Rattle.std.proofs.lemmas.Bool.{ltb-true, ltb-false}
 use Rattle.std.proofs.lemmas.List.{length-set, drop_all, get_or_default}
@@ -12,7 +13,7 @@ use Rattle.relaxed_task.specs.declared.unary.Unary.{Unary}
 use Rattle.h_add.specs.declared.network.Open.{Open}
 use Rattle.h_add.specs.Settlements.{Settlement, cost_at, is_settled, is_reached, is_left_out, open_at, less_open, counted, offered}
 use Rattle.h_add.specs.UnderWay.{share, summed, IsCounted, IsWaiting, IsWanted, IsUnderWay, HasCounted}
-use Rattle.h_add.proofs.Reaching.{reached_small, reached_same, itself, and_true}
+use Rattle.h_add.proofs.Reaching.{reached_small, reached_same, itself}
 
 -- there is a unary operator at a place within
 pub record There (unaries : List Unary) (place : ℕ) : Type 0 where
@@ -177,7 +178,7 @@ no_better unaries level place owed t fact lt within test kept way = by_test (is_
     by_test true is false big test = let out : is_left_out t fact ≡ true = rw (is, big) refl in let k : true ≡ false = sym out ∙ kept in cc
     by_test false is a le test =
         let same = get_or_default t.costs fact 0 4294967295 within in
-        let more = ltb-false (open_at (counted t place level) place).sum (get_or t.costs fact 0) (sym (and_true (nat_lt (open_at (counted t place level) place).sum (get_or t.costs fact 0))) ∙ test) in
+        let more = ltb-false (open_at (counted t place level) place).sum (get_or t.costs fact 0) (sym (and-true (nat_lt (open_at (counted t place level) place).sum (get_or t.costs fact 0))) ∙ test) in
         omega (arith, same, more)
 
 -- the state after an improvement

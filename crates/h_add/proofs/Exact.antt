@@ -1,5 +1,6 @@
 -- What is reached costs what it does by the rounds.
 use Rattle.std.proofs.Common.{◌≡◌, ◌∙◌, ap, subst, ℕ, zero, suc, List, [], ◌∷◌, Bool, true, false, nat_eq, if◌then◌else◌, Some, slice_get, refl, sym, ◌≤◌, inl, inr, ◌++◌, length, nat_le, nat_lt, not, ◌&&◌, ◌||◌, arith, None, map, ◌⊎◌, ◌<◌, ◌+◌}
+use Rattle.std.proofs.Math.Bool.{or-false}
 use Rattle.std.proofs.lemmas.Bool.{cases_lt, eqb-true, false_from_ne_true, leb-true, leb-false, lt-ltb}
 use Rattle.lama_num.specs.declared.estimates.Estimate.{Estimate}
 use Rattle.lama_num.specs.declared.estimates.Estimate.TheVariants.{Finite, Infinite}
@@ -17,14 +18,14 @@ use Rattle.cost_queue.specs.Occurrences.{one_if}
 use Rattle.cost_queue.specs.Queues.{IsIdle}
 use Rattle.lama_num.specs.Estimates.{estimate_sum}
 use Rattle.lama_num.specs.Lists.{both}
-use Rattle.h_add.proofs.Steps.{turned}
+use Rattle.h_add.proofs.Steps.{turned, from_reached, reached_if}
 use Rattle.relaxed_task.specs.Elements.{denied}
 use Rattle.std.proofs.lemmas.List.{append-nil}
 use Rattle.h_add.specs.Orders.{chosen, given_by, are_places, IsOrder}
 use Rattle.h_add.specs.Settlements.{Settlement, cost_at, is_settled, is_reached, is_left_out, open_at}
 use Rattle.h_add.specs.UnderWay.{one_open, summed, IsCounted, IsWanted, HasSettled, IsUnderWay, IsSettling, IsFrom, AreSettled}
 use Rattle.h_add.specs.Values.{estimate_of, value_at, IsEvaluatedByNumber}
-use Rattle.h_add.proofs.Reaching.{finite_is, infinite_is, reached_small, price_sum, itself, and_true, or_false}
+use Rattle.h_add.proofs.Reaching.{finite_is, infinite_is, reached_small, price_sum, itself}
 use Rattle.sas_task.specs.declared.contents.CostKind.{CostKind}
 use Rattle.sas_task.specs.declared.contents.Fact.{Fact}
 use Rattle.sas_task.specs.declared.contents.Parts.{Parts}
@@ -163,14 +164,14 @@ attained_in unaries start without v have (u ∷ list) outside order best so fact
     more : (f : ℕ) (b : Bool) → is_among have f ≡ b → is_among (u.gives ∷ have) f ≡ true → (n : ℕ) × IsAtMost (add_round unaries start without n f) (v f)
     more f true is among = so f is
     more f false is among =
-        let same : f ≡ u.gives = eqb-true f u.gives (sym (or_false (nat_eq f u.gives)) ∙ rw is at among) in
+        let same : f ≡ u.gives = eqb-true f u.gives (sym (or-false (nat_eq f u.gives)) ∙ rw is at among) in
         subst (λ (g : ℕ). (n : ℕ) × IsAtMost (add_round unaries start without n g) (v g)) (sym same) gives
 
 -- a fact that is reached costs no less than by the rounds
 reached_attained : (unaries : List Unary) (start without : List ℕ) (t : Settlement) (fact : ℕ) → is_reached t fact ≡ true → IsSettling unaries t → IsFrom unaries without start t → (n : ℕ) × IsAtMost (add_round unaries start without n fact) (value_at t.costs fact)
 reached_attained unaries start without t fact is s from =
     attained_in unaries start without (value_at t.costs) start (chosen unaries t.order) outside from.in_order (all_best unaries s.level t t.order s.way.settled_by s.way).1 (λ f among. first f among (is_among without f) refl) fact
-    (both (is_among (start ++ given_by (chosen unaries t.order)) fact) (not (is_among without fact)) (sym (from.reached fact) ∙ is)).0
+    (both (is_among (start ++ given_by (chosen unaries t.order)) fact) (not (is_among without fact)) (sym (from_reached unaries without start t fact from) ∙ is)).0
   where
     outside : (f : ℕ) → is_among without f ≡ true → value_at t.costs f ≡ Infinite
     outside f out = let large = denied (nat_le (cost_at t f) 1000000000) (both (is_settled t f) (not (nat_le (cost_at t f) 1000000000)) (from.out f ∙ out)).1 in rw large refl
@@ -188,7 +189,7 @@ exact_where unaries start without level t top fact le a p way from = record { ro
     first f begins =
         let parts = both (is_among start f) (not (is_among without f)) begins in
         let stays = denied (is_among without f) parts.1 in
-        let is = from.reached f ∙ rw (list_any-append (nat_eq f) start (given_by (chosen unaries t.order)), parts.0, stays) refl in
+        let is = from_reached unaries without start t f from ∙ rw (list_any-append (nat_eq f) start (given_by (chosen unaries t.order)), parts.0, stays) refl in
         least_is (value_at t.costs f) top (p.below f is) ∙ ap estimate_of (from.first f parts.0 stays)
 
     below : (n : ℕ) → IsAtMost (value_at t.costs fact) (add_round unaries start without n fact)
@@ -247,7 +248,7 @@ order_of unaries start t idle s from =
     }
   where
     given : (fact : ℕ) → is_finite (value_at t.costs fact) ≡ true → (b : Bool) → is_reached t fact ≡ b → is_among (start ++ given_by (chosen unaries t.order)) fact ≡ true
-    given fact finite true is = sym (and_true (is_among (start ++ given_by (chosen unaries t.order)) fact)) ∙ (sym (from.reached fact) ∙ is)
+    given fact finite true is = (both (is_among (start ++ given_by (chosen unaries t.order)) fact) true (sym (from_reached unaries [] start t fact from) ∙ is)).0
     given fact finite false is = let k : false ≡ true = sym (ap is_finite (idle_infinite unaries t fact idle is s)) ∙ finite in absurd cc
 
 pub places_of : (unaries : List Unary) (t : Settlement) → IsSettling unaries t → are_places (length unaries) t.order ≡ true
@@ -284,14 +285,9 @@ pub goals_evaluated : (parts : Parts) (kind : CostKind) (relaxed : Lists) (state
     IsFrom relaxed.unaries [] (numbers_by relaxed.offsets state ++ relaxed.defaults) t → (fact : ℕ) → is_among goals fact ≡ true → IsAdd parts kind state [] fact (value_at t.costs fact)
 goals_evaluated parts kind relaxed state goals t is of settled way from fact among = start_as parts kind relaxed state [] t fact is of (by_case settled)
   where
-    small : (a b : Bool) → a ≡ true → (a && not b) ≡ false → (a && b) ≡ true
-    small true true is out = refl
-    small true false is out = let k : true ≡ false = out in cc
-    small false b is out = is
-
     by_case : AreSettled goals t → IsLeast (λ n. add_round relaxed.unaries (numbers_by relaxed.offsets state ++ relaxed.defaults) [] n fact) (value_at t.costs fact)
     by_case (inl all) =
-        reached_exact relaxed.unaries (numbers_by relaxed.offsets state ++ relaxed.defaults) [] t fact (small (is_settled t fact) (nat_le (cost_at t fact) 1000000000) (all_has over_numbers (is_settled t) goals fact all among) (from.out fact)) way from
+        reached_exact relaxed.unaries (numbers_by relaxed.offsets state ++ relaxed.defaults) [] t fact (reached_if t fact (all_has over_numbers (is_settled t) goals fact all among) (from.out fact)) way from
     by_case (inr idle) = idle_exact relaxed.unaries (numbers_by relaxed.offsets state ++ relaxed.defaults) [] t idle way from fact
 
 -- nothing is left out where no facts are given

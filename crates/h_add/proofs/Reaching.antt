@@ -19,18 +19,6 @@ use Rattle.h_add.specs.Values.{estimate_of, value_at}
 pub itself : (n : ℕ) → nat_eq n n ≡ true
 itself n = eq-eqb n n refl
 
-pub or_true : (a : Bool) → (a || true) ≡ true
-or_true true = refl
-or_true false = refl
-
-pub or_false : (a : Bool) → (a || false) ≡ a
-or_false true = refl
-or_false false = refl
-
-pub and_true : (a : Bool) → (a && true) ≡ a
-and_true true = refl
-and_true false = refl
-
 pub finite_is : (cost : ℕ) → cost ≤ 1000000000 → estimate_of cost ≡ Finite cost
 finite_is cost le = rw (le-leb cost 1000000000 le) refl
 

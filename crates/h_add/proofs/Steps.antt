@@ -1,6 +1,7 @@
 -- One fact after the other is settled, or passed over.
 use Rattle.std.proofs.Common.{◌≡◌, ◌≢◌, ◌∙◌, sym, ap, subst, refl, ℕ, zero, suc, ◌+◌, ◌*◌, ◌<◌, ◌≤◌, ◌⊎◌, inl, inr, List, [], ◌∷◌, ◌++◌, length, get_or, min, Bool, true, false, nat_eq, nat_lt, nat_le, not, ◌&&◌, ◌||◌, if◌then◌else◌, arith, Option, Some, None, slice_get, slice_set, get_or-set_other, get_or-set_same, append_assoc, max, take}
-use Rattle.std.proofs.lemmas.Bool.{cases_lt, eqb-true, le-leb, or_cases, lt-leb, ltb-true}
+use Rattle.std.proofs.Math.Bool.{or_assoc, or-false, or-true, and-true}
+use Rattle.std.proofs.lemmas.Bool.{and_right, or_parts, lt-ltb, cases_lt, eqb-true, le-leb, or_cases, lt-leb, ltb-true}
 use Rattle.std.proofs.lemmas.List.{length-set, set_past, map-append, append-nil, set-get_or, take_more, take_all, get_or-map, length-map}
 use Rattle.std.proofs.lemmas.List.Folds.{list_any-append, list_any_more, list_all-append}
 use Rattle.std.proofs.lemmas.List.Sums.{sum_by-set}
@@ -9,12 +10,14 @@ use Rattle.cost_queue.specs.Queues.{price_of, IsTaken}
 use Rattle.cost_queue.specs.Laws.{taken_fewer, waiting_within, there}
 use Rattle.cost_queue.specs.declared.entry.Entry.{Entry}
 use Rattle.relaxed_task.specs.Elements.{places, join}
-use Rattle.relaxed_task.specs.Numbers.{is_among, is_below}
+use Rattle.relaxed_task.specs.NumberLaws.{weaker}
+use Rattle.relaxed_task.specs.PlanLaws.{all_has}
+use Rattle.relaxed_task.specs.Numbers.{is_among, is_below, over_numbers}
 use Rattle.relaxed_task.specs.declared.unary.Unary.{Unary}
 use Rattle.h_add.specs.declared.network.Open.{Open}
 use Rattle.h_add.specs.Settlements.{Settlement, cost_at, is_settled, is_reached, is_left_out, open_at, unsettled, given_at, there_at}
 use Rattle.h_add.specs.UnderWay.{one_open, share, summed, IsCounted, IsWaiting, IsWanted, HasSettled, IsUnderWay, left_to_do, IsFrom, HasCounted, IsSettling, IsLater, IsFresh, HasMarked}
-use Rattle.h_add.proofs.Reaching.{reached_small, unsettled_not, sum_changed, or_false, reached_same, all_reached, and_true, or_true}
+use Rattle.h_add.proofs.Reaching.{reached_small, unsettled_not, sum_changed, reached_same, all_reached}
 use Rattle.std.specs.List.{list_all}
 use Rattle.std.proofs.Math.Path.{fun_ext}
 use Rattle.std.proofs.lemmas.Option.{slice_get_within, get_or_from_slice_get}
@@ -23,217 +26,153 @@ use Rattle.h_add.specs.ByNumber.{IsInOrder, price}
 use Rattle.h_add.specs.Orders.{chosen, given_by}
 use Rattle.h_add.specs.Laws.{chosen_grows}
 use Rattle.h_add.specs.Networks.{needed, IsNeededBy, AreFree, open_at_start}
-use Rattle.h_add.proofs.Counting.{unary_there}
+use Rattle.h_add.proofs.Counting.{There, unary_there}
 use Rattle.h_add.proofs.Growing.{needed_at}
 
 -- a fact is settled at a cost, while some number waits no more
 abbrev pub after : Settlement → ℕ → ℕ → List (Option ℕ) → List ℕ → Settlement
 after t fact cost waiting order = record { costs = slice_set t.costs fact cost; settled = slice_set t.settled fact true; opens = t.opens; waiting = waiting; order = order }
 
--- what is reached after a fact was settled
-pub record Reaches (t : Settlement) (fact cost : ℕ) (waiting : List (Option ℕ)) (order : List ℕ) : Type 0 where
-  pub cost_is : cost_at (after t fact cost waiting order) fact ≡ cost
-  pub cost_there : (other : ℕ) → other ≢ fact → cost_at (after t fact cost waiting order) other ≡ cost_at t other
-  pub settled_there : (other : ℕ) → other ≢ fact → is_settled (after t fact cost waiting order) other ≡ is_settled t other
-  pub settled_now : is_settled (after t fact cost waiting order) fact ≡ true
-  pub reached : is_reached (after t fact cost waiting order) fact ≡ true
-  pub kept : is_left_out (after t fact cost waiting order) fact ≡ false
-  pub reached_there : (other : ℕ) → other ≢ fact → is_reached (after t fact cost waiting order) other ≡ is_reached t other
-  pub kept_there : (other : ℕ) → other ≢ fact → is_left_out (after t fact cost waiting order) other ≡ is_left_out t other
+-- a flag more
+pub flagged : (flags : List Bool) (fact f : ℕ) → fact < length flags → get_or (slice_set flags fact true) f false ≡ (get_or flags f false || nat_eq f fact)
+flagged flags fact f lt = elim (places f fact) [
+  | inl here ↦ rw (here.1, here.0) (get_or-set_same flags fact true false lt ∙ sym (or-true (get_or flags fact false)))
+  | inr there ↦ rw there.1 (get_or-set_other flags fact f true false there.0 ∙ sym (or-false (get_or flags f false)))
+]
 
-pub reaches : (t : Settlement) (fact cost : ℕ) (waiting : List (Option ℕ)) (order : List ℕ) → fact < length t.costs → fact < length t.settled → cost ≤ 1000000000 → Reaches t fact cost waiting order
-reaches t fact cost waiting order within in_flags small =
-    let cost_is : cost_at (after t fact cost waiting order) fact ≡ cost = get_or-set_same t.costs fact cost 4294967295 within in
-    let settled_now : is_settled (after t fact cost waiting order) fact ≡ true = get_or-set_same t.settled fact true false in_flags in
-    let little : nat_le (cost_at (after t fact cost waiting order) fact) 1000000000 ≡ true = ap (λ (n : ℕ). nat_le n 1000000000) cost_is ∙ le-leb cost 1000000000 small in
-    record {
-      cost_is = cost_is;
-      cost_there = λ other ne. get_or-set_other t.costs fact other cost 4294967295 ne;
-      settled_there = λ other ne. get_or-set_other t.settled fact other true false ne;
-      settled_now = settled_now;
-      reached = rw (settled_now, little) refl;
-      kept = rw (settled_now, little) refl;
-      reached_there = λ other ne. ap (λ (b : Bool). b && nat_le (cost_at (after t fact cost waiting order) other) 1000000000) (get_or-set_other t.settled fact other true false ne) ∙ ap (λ (n : ℕ). is_settled t other && nat_le n 1000000000) (get_or-set_other t.costs fact other cost 4294967295 ne);
-      kept_there = λ other ne. ap (λ (b : Bool). b && not (nat_le (cost_at (after t fact cost waiting order) other) 1000000000)) (get_or-set_other t.settled fact other true false ne) ∙ ap (λ (n : ℕ). is_settled t other && not (nat_le n 1000000000)) (get_or-set_other t.costs fact other cost 4294967295 ne);
-    }
+-- A fact that isn't settled, is settled at a cost.
+module _ (t : Settlement) (fact cost : ℕ) (waiting : List (Option ℕ)) (order : List ℕ) (within : fact < length t.costs) (in_flags : fact < length t.settled) (new : is_settled t fact ≡ false) (small : cost ≤ 1000000000) where
+  abbrev next : Settlement
+  next = after t fact cost waiting order
 
--- A fact that isn't settled, and costs no less than what is settled and no more than what waits, is settled: those that need it have to count it.
-pub settle_way : (unaries : List Unary) (level : ℕ) (t : Settlement) (fact cost : ℕ) (waiting : List (Option ℕ)) (order row : List ℕ) → fact < length t.costs → fact < length t.settled → is_settled t fact ≡ false → cost ≤ cost_at t fact → level ≤ cost → cost ≤ 1000000000 →
-    ((place price : ℕ) → price_of waiting place ≡ Some price → (price_of t.waiting place ≡ Some price) × (cost ≤ price)) →
-    ((place : ℕ) (u : Unary) → slice_get unaries place ≡ Some u → u.gives ≢ fact → (price : ℕ) → price_of t.waiting place ≡ Some price → price_of waiting place ≡ Some price) →
-    ((place : ℕ) → is_among order place ≡ true → (is_among t.order place ≡ true) ⊎ HasSettled unaries (after t fact cost waiting order) place) →
-    ((place : ℕ) (u : Unary) → slice_get unaries place ≡ Some u → occurrences place row ≡ occurrences fact u.conds) →
-    IsUnderWay unaries level [] t → IsUnderWay unaries cost row (after t fact cost waiting order)
-settle_way unaries level t fact cost waiting order row within in_flags new cheap above small sub still ordered needed way = record {
-  level_small = small;
-  opens_long = way.opens_long;
-  each = each;
-  waits = λ place price at. (let was = sub place price at in let before = way.waits place price was.0 in record { none_open = before.none_open; price_is = before.price_is; above = was.1 });
-  wanted = λ other fresh little. wanted other fresh little (places other fact);
-  low = λ other is. low other is (places other fact);
-  settled_by = λ place among. by_order place (ordered place among);
-}
-  where
-    r : Reaches t fact cost waiting order
-    r = reaches t fact cost waiting order within in_flags small
+  cost_is : cost_at next fact ≡ cost
+  cost_is = get_or-set_same t.costs fact cost 4294967295 within
 
-    was_not : is_reached t fact ≡ false
-    was_not = (unsettled_not t fact new).0
+  pub cost_there : (f : ℕ) → f ≢ fact → cost_at next f ≡ cost_at t f
+  cost_there f ne = get_or-set_other t.costs fact f cost 4294967295 ne
 
-    less : (other : ℕ) → cost_at (after t fact cost waiting order) other ≤ cost_at t other
-    less other = by_place (places other fact)
-      where
-        by_place : ((other ≡ fact) × (nat_eq other fact ≡ true)) ⊎ ((other ≢ fact) × (nat_eq other fact ≡ false)) → cost_at (after t fact cost waiting order) other ≤ cost_at t other
-        by_place (inl here) =
-            let is = r.cost_is in
-            let le : cost_at (after t fact cost waiting order) fact ≤ cost_at t fact = omega arith in
-            subst (λ (f : ℕ). cost_at (after t fact cost waiting order) f ≤ cost_at t f) (sym here.0) le
-        by_place (inr there) = let same = r.cost_there other there.0 in omega arith
+  settled_is : is_settled next fact ≡ true
+  settled_is = get_or-set_same t.settled fact true false in_flags
 
-    kept_was : (other : ℕ) → is_left_out (after t fact cost waiting order) other ≡ false → is_left_out t other ≡ false
-    kept_was other kept = by_place (places other fact)
-      where
-        by_place : ((other ≡ fact) × (nat_eq other fact ≡ true)) ⊎ ((other ≢ fact) × (nat_eq other fact ≡ false)) → is_left_out t other ≡ false
-        by_place (inl here) = ap (is_left_out t) here.0 ∙ (unsettled_not t fact new).1
-        by_place (inr there) = sym (r.kept_there other there.0) ∙ kept
+  settled_there : (f : ℕ) → f ≢ fact → is_settled next f ≡ is_settled t f
+  settled_there f ne = get_or-set_other t.settled fact f true false ne
 
-    each : (place : ℕ) (u : Unary) → slice_get unaries place ≡ Some u → IsCounted (after t fact cost waiting order) cost row place u
-    each place u at =
-        let was = way.each place u at in
+  little : nat_le (cost_at next fact) 1000000000 ≡ true
+  little = ap (λ (n : ℕ). nat_le n 1000000000) cost_is ∙ le-leb cost 1000000000 small
+
+  reached_is : is_reached next fact ≡ true
+  reached_is = rw (settled_is, little) refl
+
+  reached_there : (f : ℕ) → f ≢ fact → is_reached next f ≡ is_reached t f
+  reached_there f ne = rw (settled_there f ne, cost_there f ne) refl
+
+  pub kept : (f : ℕ) → is_left_out next f ≡ is_left_out t f
+  kept f = elim (places f fact) [
+    | inl here ↦ rw here.0 (rw (settled_is, little, new) refl)
+    | inr there ↦ rw (settled_there f there.0, cost_there f there.0) refl
+  ]
+
+  -- It costs no less than what is settled and no more than what waits: those that need it have to count it.
+  pub settle_way : (unaries : List Unary) (level : ℕ) (row : List ℕ) → cost ≤ cost_at t fact → level ≤ cost →
+      ((place price : ℕ) → price_of waiting place ≡ Some price → (price_of t.waiting place ≡ Some price) × (cost ≤ price)) →
+      ((place : ℕ) (u : Unary) → slice_get unaries place ≡ Some u → u.gives ≢ fact → (price : ℕ) → price_of t.waiting place ≡ Some price → price_of waiting place ≡ Some price) →
+      ((place : ℕ) → is_among order place ≡ true → (is_among t.order place ≡ true) ⊎ ((u : Unary) × (slice_get unaries place ≡ Some u) × ((open_at t place).count ≡ 0) × (fact ≡ u.gives) × (cost ≡ (open_at t place).sum))) →
+      ((place : ℕ) (u : Unary) → slice_get unaries place ≡ Some u → occurrences place row ≡ occurrences fact u.conds) →
+      IsUnderWay unaries level [] t → IsUnderWay unaries cost row next
+  settle_way unaries level row cheap above sub still ordered needed way = record {
+    level_small = small;
+    opens_long = way.opens_long;
+    each = λ place u at.
+        (let was = way.each place u at in
         let count_was = was.count in
         let sum_was = was.sum in
         let as_often = needed place u at in
-        let fewer = sum_changed (one_open t) (one_open (after t fact cost waiting order)) fact 1 0 u.conds (rw was_not refl) (rw r.reached refl) (λ c ne. ap (λ (b : Bool). one_if (not b)) (r.reached_there c ne)) in
-        let more = sum_changed (share t) (share (after t fact cost waiting order)) fact 0 cost u.conds (rw was_not refl) (rw r.reached r.cost_is) (λ c ne. rw (r.reached_there c ne, r.cost_there c ne) refl) in
+        let fewer = sum_changed (one_open t) (one_open next) fact 1 0 u.conds (rw (unsettled_not t fact new).0 refl) (rw reached_is refl) (λ c ne. ap (λ (b : Bool). one_if (not b)) (reached_there c ne)) in
+        let more = sum_changed (share t) (share next) fact 0 cost u.conds (rw (unsettled_not t fact new).0 refl) (rw reached_is cost_is) (λ c ne. rw (reached_there c ne, cost_there c ne) refl) in
         let times = ap (λ (n : ℕ). n * cost) as_often in
         record {
           count = omega (arith, count_was, fewer, as_often);
           sum = omega (arith, sum_was, more, times);
           small = was.small;
-          offered = λ none kept. (let le = was.offered none (kept_was u.gives kept) in let down = less u.gives in omega (arith, le, down));
-        }
-
-    wanted : (other : ℕ) → is_settled (after t fact cost waiting order) other ≡ false → cost_at (after t fact cost waiting order) other ≤ 1000000000 → ((other ≡ fact) × (nat_eq other fact ≡ true)) ⊎ ((other ≢ fact) × (nat_eq other fact ≡ false)) →
-        IsWanted unaries (after t fact cost waiting order) other
-    wanted other fresh little (inl here) = let k : true ≡ false = sym r.settled_now ∙ (ap (is_settled (after t fact cost waiting order)) (sym here.0) ∙ fresh) in absurd cc
-    wanted other fresh little (inr there) =
-        let same = r.cost_there other there.0 in
-        let was = way.wanted other (sym (r.settled_there other there.0) ∙ fresh) (omega arith) in
-        let now : price_of waiting was.place ≡ Some (cost_at t other) = still was.place was.unary was.at (λ e. there.0 (sym was.gives ∙ e)) (cost_at t other) was.waits in
-        record { place = was.place; unary = was.unary; at = was.at; gives = was.gives; waits = now ∙ ap (λ (n : ℕ). Some n) (sym same) }
-
-    low : (other : ℕ) → is_reached (after t fact cost waiting order) other ≡ true → ((other ≡ fact) × (nat_eq other fact ≡ true)) ⊎ ((other ≢ fact) × (nat_eq other fact ≡ false)) → cost_at (after t fact cost waiting order) other ≤ cost
-    low other is (inl here) =
-        let at_fact = r.cost_is in
-        let le : cost_at (after t fact cost waiting order) fact ≤ cost = omega arith in
-        subst (λ (f : ℕ). cost_at (after t fact cost waiting order) f ≤ cost) (sym here.0) le
-    low other is (inr there) =
-        let same = r.cost_there other there.0 in
-        let le = way.low other (sym (r.reached_there other there.0) ∙ is) in
-        omega arith
-
-    by_order : (place : ℕ) → (is_among t.order place ≡ true) ⊎ HasSettled unaries (after t fact cost waiting order) place → HasSettled unaries (after t fact cost waiting order) place
-    by_order place (inr is) = is
-    by_order place (inl among) =
-        let was = way.settled_by place among in
-        let ne : was.unary.gives ≢ fact = λ e. (let k : true ≡ false = sym was.reached ∙ (ap (is_reached t) e ∙ was_not) in absurd cc) in
-        record {
-          unary = was.unary;
-          at = was.at;
-          none_open = was.none_open;
-          reached = r.reached_there was.unary.gives ne ∙ was.reached;
-          pays = r.cost_there was.unary.gives ne ∙ was.pays;
-        }
+          offered = λ none stays. (let le = was.offered none (sym (kept u.gives) ∙ stays) in let down = less u.gives in omega (arith, le, down));
+        });
+    waits = λ place price at. (let was = sub place price at in let before = way.waits place price was.0 in record { none_open = before.none_open; price_is = before.price_is; above = was.1 });
+    wanted = λ f fresh low. elim (places f fact) [
+      | inl here ↦ let k : true ≡ false = sym settled_is ∙ (rw here.0 at fresh) in absurd cc
+      | inr there ↦
+          let same = cost_there f there.0 in
+          let was = way.wanted f (sym (settled_there f there.0) ∙ fresh) (omega arith) in
+          record { place = was.place; unary = was.unary; at = was.at; gives = was.gives; waits = still was.place was.unary was.at (λ e. there.0 (sym was.gives ∙ e)) (cost_at t f) was.waits ∙ ap (λ (n : ℕ). Some n) (sym same) }
+    ];
+    low = λ f is. elim (places f fact) [
+      | inl here ↦ rw here.0 (let same = cost_is in omega arith)
+      | inr there ↦ let same = cost_there f there.0 in let le = way.low f (sym (reached_there f there.0) ∙ is) in omega arith
+    ];
+    settled_by = λ place among. elim (ordered place among) [
+      | inl before ↦
+          let was = way.settled_by place before in
+          let ne : was.unary.gives ≢ fact = λ e. (let k : true ≡ false = sym was.reached ∙ (ap (is_reached t) e ∙ (unsettled_not t fact new).0) in absurd cc) in
+          record { unary = was.unary; at = was.at; none_open = was.none_open; reached = reached_there was.unary.gives ne ∙ was.reached; pays = cost_there was.unary.gives ne ∙ was.pays }
+      | inr last ↦ record { unary = last.0; at = last.1; none_open = last.2; reached = rw (← last.3) reached_is; pays = rw (← last.3) (cost_is ∙ last.4) }
+    ];
+  }
+    where
+      less : (f : ℕ) → cost_at next f ≤ cost_at t f
+      less f = elim (places f fact) [
+        | inl here ↦ rw here.0 (let same = cost_is in omega arith)
+        | inr there ↦ let same = cost_there f there.0 in omega arith
+      ]
 
 -- what a unary operator that is taken asks for is what its fact costs
-pub record Pays (unaries : List Unary) (level : ℕ) (t : Settlement) (entry : Entry) (u : Unary) : Type 0 where
+pub record Pays (level : ℕ) (t : Settlement) (entry : Entry) (fact : ℕ) : Type 0 where
   pub none_open : (open_at t entry.number).count ≡ 0
   pub price_is : entry.price ≡ (open_at t entry.number).sum
   pub above : level ≤ entry.price
   pub small : entry.price ≤ 1000000000
-  pub cost_is : cost_at t u.gives ≡ entry.price
+  pub cost_is : cost_at t fact ≡ entry.price
 
-pub taken_pays : (unaries : List Unary) (level : ℕ) (t : Settlement) (waiting : List (Option ℕ)) (entry : Entry) (u : Unary) → slice_get unaries entry.number ≡ Some u → IsTaken t.waiting waiting entry → is_settled t u.gives ≡ false → IsUnderWay unaries level [] t → Pays unaries level t entry u
-taken_pays unaries level t waiting entry u at taken new way =
+pub taken_pays : (unaries : List Unary) (level : ℕ) (t : Settlement) (waiting : List (Option ℕ)) (entry : Entry) (u : Unary) (fact : ℕ) → slice_get unaries entry.number ≡ Some u → fact ≡ u.gives → IsTaken t.waiting waiting entry → is_settled t fact ≡ false → IsUnderWay unaries level [] t → Pays level t entry fact
+taken_pays unaries level t waiting entry u fact at gives taken new way =
     let waits = way.waits entry.number entry.price taken.waited in
     let counted = way.each entry.number u at in
     let small = counted.small in
     let price_is = waits.price_is in
-    let le = counted.offered waits.none_open (unsettled_not t u.gives new).1 in
-    let wanted = way.wanted u.gives new (omega (arith, small, le)) in
-    let least = taken.least wanted.place (cost_at t u.gives) wanted.waits in
+    let le : cost_at t fact ≤ (open_at t entry.number).sum = rw gives (counted.offered waits.none_open (unsettled_not t u.gives (rw gives at new)).1) in
+    let wanted = way.wanted fact new (omega (arith, small, le)) in
+    let least = taken.least wanted.place (cost_at t fact) wanted.waits in
     record { none_open = waits.none_open; price_is = price_is; above = waits.above; small = omega (arith, small, price_is); cost_is = omega (arith, le, least, price_is) }
 
 -- the waiting ones without the one that was taken
 pub taken_sub : (old new : List (Option ℕ)) (entry : Entry) → IsTaken old new entry → (place price : ℕ) → price_of new place ≡ Some price → (price_of old place ≡ Some price) × (entry.price ≤ price)
-taken_sub old new entry taken place price at = by_place (places place entry.number)
+taken_sub old new entry taken place price at = elim (places place entry.number) [
+  | inl here ↦ let k : None ≡ Some price = sym (get_or-set_same old entry.number None None (there old entry.number entry.price taken.waited)) ∙ (rw here.0 at now) in absurd cc
+  | inr other ↦ let was = sym (get_or-set_other old entry.number place None None other.0) ∙ now in (was, taken.least place price was)
+]
   where
     now : price_of (slice_set old entry.number None) place ≡ Some price
     now = ap (λ (xs : List (Option ℕ)). price_of xs place) (sym taken.rest) ∙ at
 
-    by_place : ((place ≡ entry.number) × (nat_eq place entry.number ≡ true)) ⊎ ((place ≢ entry.number) × (nat_eq place entry.number ≡ false)) → (price_of old place ≡ Some price) × (entry.price ≤ price)
-    by_place (inl here) =
-        let k : None ≡ Some price = sym (none_set old entry.number) ∙ (ap (price_of (slice_set old entry.number None)) (sym here.0) ∙ now) in
-        absurd cc
-      where
-        none_set : (xs : List (Option ℕ)) (i : ℕ) → price_of (slice_set xs i None) i ≡ None
-        none_set [] i = refl
-        none_set (x ∷ xs) zero = refl
-        none_set (x ∷ xs) (suc i) = none_set xs i
-    by_place (inr there) =
-        let was : price_of old place ≡ Some price = sym (get_or-set_other old entry.number place None None there.0) ∙ now in
-        (was, taken.least place price was)
-
-pub taken_still : (old new : List (Option ℕ)) (entry : Entry) (place price : ℕ) → IsTaken old new entry → place ≢ entry.number → price_of old place ≡ Some price → price_of new place ≡ Some price
-taken_still old new entry place price taken ne at = ap (λ (xs : List (Option ℕ)). price_of xs place) taken.rest ∙ (get_or-set_other old entry.number place None None ne ∙ at)
-
-same_unary : (unaries : List Unary) (place other : ℕ) (u x : Unary) → slice_get unaries place ≡ Some u → slice_get unaries other ≡ Some x → place ≡ other → x ≡ u
-same_unary unaries place other u x at at_x e = let k : Some x ≡ Some u = sym at_x ∙ (ap (slice_get unaries) (sym e) ∙ at) in cc
-
-pub among_last : (xs : List ℕ) (x y : ℕ) → is_among (xs ++ x ∷ []) y ≡ true → (is_among xs y ≡ true) ⊎ (y ≡ x)
-among_last xs x y is = elim (or_cases (is_among xs y) (nat_eq y x || false) (sym (list_any-append (nat_eq y) xs (x ∷ [])) ∙ is)) [
-  | inl was ↦ inl was
-  | inr last ↦ inr (eqb-true y x (sym (or_false (nat_eq y x)) ∙ last))
-]
-
--- The unary operator that is taken settles its fact.
-pub given_way : (unaries : List Unary) (level : ℕ) (t : Settlement) (waiting : List (Option ℕ)) (entry : Entry) (u : Unary) (row : List ℕ) → slice_get unaries entry.number ≡ Some u → u.gives < length t.costs → u.gives < length t.settled → IsTaken t.waiting waiting entry → is_settled t u.gives ≡ false →
-    ((place : ℕ) (x : Unary) → slice_get unaries place ≡ Some x → occurrences place row ≡ occurrences u.gives x.conds) → IsUnderWay unaries level [] t →
-    IsUnderWay unaries entry.price row (after t u.gives entry.price waiting (t.order ++ entry.number ∷ []))
-given_way unaries level t waiting entry u row at within in_flags taken new needed way =
-    settle_way unaries level t u.gives entry.price waiting (t.order ++ entry.number ∷ []) row within in_flags new cost_here p.above p.small (taken_sub t.waiting waiting entry taken)
-    (λ place x at_x ne price waits. taken_still t.waiting waiting entry place price taken (λ e. ne (ap (λ (y : Unary). y.gives) (same_unary unaries entry.number place u x at at_x (sym e)))) waits)
-    (λ place among. by_last place (among_last t.order entry.number place among)) needed way
+-- one that gives another fact waits still
+pub taken_still : (unaries : List Unary) (old new : List (Option ℕ)) (entry : Entry) (u : Unary) (fact : ℕ) → slice_get unaries entry.number ≡ Some u → fact ≡ u.gives → IsTaken old new entry →
+    (place : ℕ) (x : Unary) → slice_get unaries place ≡ Some x → x.gives ≢ fact → (price : ℕ) → price_of old place ≡ Some price → price_of new place ≡ Some price
+taken_still unaries old new entry u fact at gives taken place x at_x ne price waits = ap (λ (xs : List (Option ℕ)). price_of xs place) taken.rest ∙ (get_or-set_other old entry.number place None None apart ∙ waits)
   where
-    p : Pays unaries level t entry u
-    p = taken_pays unaries level t waiting entry u at taken new way
-
-    cost_here : entry.price ≤ cost_at t u.gives
-    cost_here = let is = p.cost_is in omega arith
-
-    r : Reaches t u.gives entry.price waiting (t.order ++ entry.number ∷ [])
-    r = reaches t u.gives entry.price waiting (t.order ++ entry.number ∷ []) within in_flags p.small
-
-    by_last : (place : ℕ) → (is_among t.order place ≡ true) ⊎ (place ≡ entry.number) → (is_among t.order place ≡ true) ⊎ HasSettled unaries (after t u.gives entry.price waiting (t.order ++ entry.number ∷ [])) place
-    by_last place (inl among) = inl among
-    by_last place (inr same) =
-        let here : HasSettled unaries (after t u.gives entry.price waiting (t.order ++ entry.number ∷ [])) entry.number = record { unary = u; at = at; none_open = p.none_open; reached = r.reached; pays = r.cost_is ∙ p.price_is } in
-        inr (subst (λ (i : ℕ). HasSettled unaries (after t u.gives entry.price waiting (t.order ++ entry.number ∷ [])) i) (sym same) here)
+    apart : place ≢ entry.number
+    apart e = let k : Some x ≡ Some u = sym at_x ∙ (rw e at) in let same : x ≡ u = cc in ne (ap (λ (y : Unary). y.gives) same ∙ sym gives)
 
 -- One whose fact is settled already is passed over.
-pub passed_way : (unaries : List Unary) (level : ℕ) (t : Settlement) (waiting : List (Option ℕ)) (entry : Entry) (u : Unary) → slice_get unaries entry.number ≡ Some u → IsTaken t.waiting waiting entry → is_settled t u.gives ≡ true → IsUnderWay unaries level [] t →
+pub passed_way : (unaries : List Unary) (level : ℕ) (t : Settlement) (waiting : List (Option ℕ)) (entry : Entry) (u : Unary) (fact : ℕ) → slice_get unaries entry.number ≡ Some u → fact ≡ u.gives → IsTaken t.waiting waiting entry → is_settled t fact ≡ true → IsUnderWay unaries level [] t →
     IsUnderWay unaries entry.price [] (record t { waiting = waiting })
-passed_way unaries level t waiting entry u at taken old way = record {
+passed_way unaries level t waiting entry u fact at gives taken old way = record {
   level_small = let small = (way.each entry.number u at).small in let is = waits.price_is in omega arith;
   opens_long = way.opens_long;
   each = λ place x at_x. (let was = way.each place x at_x in let sum = was.sum in record { count = was.count; sum = omega (arith, sum); small = was.small; offered = was.offered });
   waits = λ place price now. (let was = taken_sub t.waiting waiting entry taken place price now in let before = way.waits place price was.0 in record { none_open = before.none_open; price_is = before.price_is; above = was.1 });
-  wanted = λ fact fresh small. (let was = way.wanted fact fresh small in
-      let ne : was.place ≢ entry.number = λ e. (let same = same_unary unaries entry.number was.place u was.unary at was.at (sym e) in
-      let gives : u.gives ≡ fact = ap (λ (y : Unary). y.gives) (sym same) ∙ was.gives in
-      let k : true ≡ false = sym old ∙ (ap (is_settled t) gives ∙ fresh) in absurd cc) in
-      record { place = was.place; unary = was.unary; at = was.at; gives = was.gives; waits = taken_still t.waiting waiting entry was.place (cost_at t fact) taken ne was.waits });
-  low = λ fact is. (let le = way.low fact is in let above = waits.above in omega arith);
+  wanted = λ f fresh small.
+      (let was = way.wanted f fresh small in
+      let ne : was.unary.gives ≢ fact = λ e. (let k : true ≡ false = sym old ∙ (ap (is_settled t) (sym e ∙ was.gives) ∙ fresh) in absurd cc) in
+      record { place = was.place; unary = was.unary; at = was.at; gives = was.gives; waits = taken_still unaries t.waiting waiting entry u fact at gives taken was.place was.unary was.at ne (cost_at t f) was.waits });
+  low = λ f is. (let le = way.low f is in let above = waits.above in omega arith);
   settled_by = λ place among. (let was = way.settled_by place among in record { unary = was.unary; at = was.at; none_open = was.none_open; reached = was.reached; pays = was.pays });
 }
   where
@@ -273,9 +212,6 @@ settled_less t now fact lt new settled long =
     once : (a b : ℕ) → (a + 1) * b ≡ a * b + b
     once a b = omega arith
 
-pub taken_long : (old new : List (Option ℕ)) (entry : Entry) → IsTaken old new entry → length new ≡ length old
-taken_long old new entry taken = ap length taken.rest ∙ length-set old entry.number None
-
 -- one more in an order
 pub turned : (x : ℕ) (facts more : List ℕ) → is_among (facts ++ x ∷ more) ≡ is_among (x ∷ (facts ++ more))
 turned x facts more = fun_ext (λ fact.
@@ -297,89 +233,37 @@ order_grows facts (x ∷ list) u order conds new = (
       (subst (λ (p : ℕ → Bool). p u.gives ≡ false) (turned x.gives facts (given_by list)) new),
 )
 
-all_reached_had : (reached : ℕ → Bool) (had without conds : List ℕ) → ((fact : ℕ) → reached fact ≡ (is_among had fact && not (is_among without fact))) → list_all reached conds ≡ true → list_all (is_among had) conds ≡ true
-all_reached_had reached had without [] is all = refl
-all_reached_had reached had without (c ∷ conds) is all =
-    let parts = both (reached c) (list_all reached conds) all in
-    let here = both (is_among had c) (not (is_among without c)) (sym (is c) ∙ parts.0) in
-    join (is_among had c) (list_all (is_among had) conds) here.0 (all_reached_had reached had without conds is parts.1)
+-- what was there at first, and what the order gives
+abbrev pub gained : List Unary → List ℕ → List ℕ → List ℕ
+gained unaries had order = had ++ given_by (chosen unaries order)
 
--- What is reached after one fact more was settled: what was there at first and what the order gives have that fact more.
-pub from_settled : (unaries : List Unary) (without had more order : List ℕ) (t : Settlement) (fact cost : ℕ) (waiting : List (Option ℕ)) → fact < length t.costs → fact < length t.settled → is_settled t fact ≡ false → cost ≤ 1000000000 →
-    ((f : ℕ) → is_among (more ++ given_by (chosen unaries order)) f ≡ (is_among (had ++ given_by (chosen unaries t.order)) f || nat_eq f fact)) →
-    ((f : ℕ) → is_among more f ≡ true → (is_among had f ≡ true) ⊎ ((f ≡ fact) × (cost ≡ 0))) → IsInOrder more (chosen unaries order) → IsFrom unaries without had t → IsFrom unaries without more (after t fact cost waiting order)
-from_settled unaries without had more order t fact cost waiting within in_flags new small one_more only in_order from = record {
-  out = λ f. elim (places f fact) [
-    | inl here ↦ ap (is_left_out (after t fact cost waiting order)) here.0 ∙ (r.kept ∙ (sym not_out ∙ ap (is_among without) (sym here.0)))
-    | inr there ↦ r.kept_there f there.0 ∙ from.out f
-  ];
-  reached = λ f. elim (places f fact) [
-    | inl here ↦
-        let among = one_more f ∙ (ap (λ (b : Bool). is_among (had ++ given_by (chosen unaries t.order)) f || b) here.1 ∙ or_true (is_among (had ++ given_by (chosen unaries t.order)) f)) in
-        let kept : is_among without f ≡ false = ap (is_among without) here.0 ∙ not_out in
-        ap (is_reached (after t fact cost waiting order)) here.0 ∙ (r.reached ∙ rw (among, kept) refl)
-    | inr there ↦
-        let among = one_more f ∙ (ap (λ (b : Bool). is_among (had ++ given_by (chosen unaries t.order)) f || b) there.1 ∙ or_false (is_among (had ++ given_by (chosen unaries t.order)) f)) in
-        r.reached_there f there.0 ∙ (from.reached f ∙ ap (λ (b : Bool). b && not (is_among without f)) (sym among))
-  ];
-  first = λ f among stays. elim (only f among) [
-    | inl was ↦
-        let reached_was : is_reached t f ≡ true = from.reached f ∙ rw (list_any-append (nat_eq f) had (given_by (chosen unaries t.order)), was, stays) refl in
-        r.cost_there f (λ e. let k : true ≡ false = sym reached_was ∙ (ap (is_reached t) e ∙ (unsettled_not t fact new).0) in cc) ∙ from.first f was stays
-    | inr is ↦ ap (cost_at (after t fact cost waiting order)) is.0 ∙ (r.cost_is ∙ is.1)
-  ];
-  in_order = in_order;
-}
+-- what is left out is settled, but not reached
+pub from_reached : (unaries : List Unary) (without had : List ℕ) (t : Settlement) (fact : ℕ) → IsFrom unaries without had t → is_reached t fact ≡ (is_among (gained unaries had t.order) fact && not (is_among without fact))
+from_reached unaries without had t fact from = by_flags (is_settled t fact) (nat_le (cost_at t fact) 1000000000) (is_among without fact) (is_among (gained unaries had t.order) fact) (from.out fact) (from.settled fact)
   where
-    r : Reaches t fact cost waiting order
-    r = reaches t fact cost waiting order within in_flags small
+    by_flags : (a b w g : Bool) → (a && not b) ≡ w → a ≡ (w || g) → (a && b) ≡ (g && not w)
+    by_flags true true w g out is = rw (← out, ← (rw (← out) at is)) refl
+    by_flags true false w g out is = rw (← out) (sym (and_right g false refl))
+    by_flags false b w g out is = rw (← (rw (← out) at is)) refl
 
-    not_out : is_among without fact ≡ false
-    not_out = sym (from.out fact) ∙ (unsettled_not t fact new).1
-
--- a unary operator gave its fact
-pub from_given : (unaries : List Unary) (without had : List ℕ) (level : ℕ) (t : Settlement) (waiting : List (Option ℕ)) (entry : Entry) (u : Unary) → slice_get unaries entry.number ≡ Some u → u.gives < length t.costs → u.gives < length t.settled → IsTaken t.waiting waiting entry → is_settled t u.gives ≡ false →
-    IsUnderWay unaries level [] t → IsFrom unaries without had t → IsFrom unaries without had (after t u.gives entry.price waiting (t.order ++ entry.number ∷ []))
-from_given unaries without had level t waiting entry u at within in_flags taken new way from =
-    let p = taken_pays unaries level t waiting entry u at taken new way in
-    let count = (way.each entry.number u at).count in
-    let none = p.none_open in
-    let conds = all_reached t u.conds (omega (arith, count, none)) in
-    let grows = chosen_grows unaries t.order entry.number u at in
-    from_settled unaries without had had (t.order ++ entry.number ∷ []) t u.gives entry.price waiting within in_flags new p.small
-    (λ f. ap (λ (list : List Unary). is_among (had ++ given_by list) f) grows ∙ (split f ∙ ap (λ (b : Bool). is_among (had ++ given_by (chosen unaries t.order)) f || b) (or_false (nat_eq f u.gives)))) (λ f among. inl among)
-    (rw grows (order_grows had (chosen unaries t.order) u from.in_order (all_reached_had (is_reached t) (had ++ given_by (chosen unaries t.order)) without u.conds from.reached conds) fresh)) from
+pub reached_if : (t : Settlement) (fact : ℕ) → is_settled t fact ≡ true → is_left_out t fact ≡ false → is_reached t fact ≡ true
+reached_if t fact is kept = by_test (nat_le (cost_at t fact) 1000000000) (rw is at kept)
   where
-    split : (f : ℕ) → is_among (had ++ given_by (chosen unaries t.order ++ u ∷ [])) f ≡ (is_among (had ++ given_by (chosen unaries t.order)) f || (nat_eq f u.gives || false))
-    split f =
-        ap (λ (xs : List ℕ). is_among xs f) (ap (λ (xs : List ℕ). had ++ xs) (map-append (λ (x : Unary). x.gives) (chosen unaries t.order) (u ∷ [])) ∙ sym (append_assoc had (given_by (chosen unaries t.order)) (u.gives ∷ [])))
-        ∙ list_any-append (nat_eq f) (had ++ given_by (chosen unaries t.order)) (u.gives ∷ [])
+    by_test : (b : Bool) → (true && not b) ≡ false → (is_settled t fact && b) ≡ true
+    by_test true kept = rw is refl
+    by_test false kept = let k : true ≡ false = kept in cc
 
-    fresh : is_among (had ++ given_by (chosen unaries t.order)) u.gives ≡ false
-    fresh =
-        let not_out : is_among without u.gives ≡ false = sym (from.out u.gives) ∙ (unsettled_not t u.gives new).1 in
-        sym (and_true (is_among (had ++ given_by (chosen unaries t.order)) u.gives))
-        ∙ (ap (λ (b : Bool). is_among (had ++ given_by (chosen unaries t.order)) u.gives && not b) (sym not_out) ∙ (sym (from.reached u.gives) ∙ (unsettled_not t u.gives new).0))
+first_settled : (unaries : List Unary) (without had : List ℕ) (t : Settlement) (fact : ℕ) → is_among had fact ≡ true → IsFrom unaries without had t → is_settled t fact ≡ true
+first_settled unaries without had t fact among from = from.settled fact ∙ rw (list_any-append (nat_eq fact) had (given_by (chosen unaries t.order)), among) (or-true (is_among without fact))
 
 -- what is settled from a start, after a fact was counted
-pub from_counted : (unaries : List Unary) (without had : List ℕ) (t now : Settlement) → HasCounted t now → IsFrom unaries without had t → IsFrom unaries without had now
+from_counted : (unaries : List Unary) (without had : List ℕ) (t now : Settlement) → HasCounted t now → IsFrom unaries without had t → IsFrom unaries without had now
 from_counted unaries without had t now counted from = record {
-  out = λ fact. (same fact).1 ∙ from.out fact;
-  reached = λ fact. (same fact).0 ∙ (from.reached fact ∙ ap (λ (order : List ℕ). is_among (had ++ given_by (chosen unaries order)) fact && not (is_among without fact)) (sym counted.order));
-  first = λ fact among stays. counted.kept fact (settled fact among stays) ∙ from.first fact among stays;
-  in_order = subst (λ (order : List ℕ). IsInOrder had (chosen unaries order)) (sym counted.order) from.in_order;
+  out = λ fact. (reached_same t now counted.settled counted.kept fact).1 ∙ from.out fact;
+  settled = λ fact. rw (counted.settled, counted.order) (from.settled fact);
+  first = λ fact among stays. counted.kept fact (first_settled unaries without had t fact among from) ∙ from.first fact among stays;
+  in_order = rw counted.order from.in_order;
 }
-  where
-    same : (fact : ℕ) → (is_reached now fact ≡ is_reached t fact) × (is_left_out now fact ≡ is_left_out t fact) × (share now fact ≡ share t fact)
-    same = reached_same t now counted.settled counted.kept
-
-    settled : (fact : ℕ) → is_among had fact ≡ true → is_among without fact ≡ false → is_settled t fact ≡ true
-    settled fact among stays =
-        let both_lists : is_among (had ++ given_by (chosen unaries t.order)) fact ≡ true = list_any-append (nat_eq fact) had (given_by (chosen unaries t.order)) ∙ ap (λ (b : Bool). b || is_among (given_by (chosen unaries t.order)) fact) among in
-        (reached_small t fact (from.reached fact ∙ rw (both_lists, stays) refl)).0
-
-pub from_passed : (unaries : List Unary) (without had : List ℕ) (t : Settlement) (waiting : List (Option ℕ)) → IsFrom unaries without had t → IsFrom unaries without had (record t { waiting = waiting })
-from_passed unaries without had t waiting from = record { out = from.out; reached = from.reached; first = from.first; in_order = from.in_order }
 
 pub taken_within : (unaries : List Unary) (t mid : Settlement) (entry : Entry) → IsTaken t.waiting mid.waiting entry → length t.waiting ≡ length t.opens → IsSettling unaries t → entry.number < length unaries
 taken_within unaries t mid entry taken long s = let lt = there t.waiting entry.number entry.price taken.waited in let opens = s.way.opens_long in omega arith
@@ -393,16 +277,10 @@ needed_same always fact [] lt = by_place (places fact always)
     by_place (inr other) = ap (λ (b : Bool). one_if b + 0) other.1 ∙ omega arith
 needed_same always fact (c ∷ conds) lt = refl
 
--- the state after a fact was given
-given_is : (t mid now : Settlement) (fact : ℕ) (entry : Entry) → mid ≡ record t { waiting = mid.waiting } → now ≡ given_at mid fact entry.number → slice_set t.costs fact entry.price ≡ t.costs → now ≡ after t fact entry.price mid.waiting (t.order ++ entry.number ∷ [])
-given_is t mid now fact entry mid_is now_is same =
-    now_is ∙ ap (λ (s : Settlement). given_at s fact entry.number) mid_is
-    ∙ ap (λ (costs : List ℕ). record { costs = costs; settled = slice_set t.settled fact true; opens = t.opens; waiting = mid.waiting; order = t.order ++ entry.number ∷ [] }) (sym same)
-
 settled_mid : (t mid : Settlement) (fact : ℕ) (b : Bool) → mid ≡ record t { waiting = mid.waiting } → is_settled mid fact ≡ b → is_settled t fact ≡ b
 settled_mid t mid fact b mid_is is = ap (λ (s : Settlement). is_settled s fact) (sym mid_is) ∙ is
 
--- it settles its fact
+-- A unary operator settles its fact.
 pub record IsGiven (unaries : List Unary) (t now : Settlement) (fact price : ℕ) (row : List ℕ) : Type 0 where
   pub way : IsUnderWay unaries price row now
   pub from : (without had : List ℕ) → IsFrom unaries without had t → IsFrom unaries without had now
@@ -415,26 +293,65 @@ pub record IsGiven (unaries : List Unary) (t now : Settlement) (fact price : ℕ
 pub step_given : (unaries : List Unary) (facts : ℕ) (t mid now : Settlement) (row : List ℕ) (fact : ℕ) (entry : Entry) → facts ≡ length t.costs → length t.settled ≡ length t.costs → length t.waiting ≡ length t.opens → mid ≡ record t { waiting = mid.waiting } →
     IsTaken t.waiting mid.waiting entry → ((u : Unary) → slice_get unaries entry.number ≡ Some u → fact ≡ u.gives) → fact < facts → is_settled mid fact ≡ false → now ≡ given_at mid fact entry.number → IsNeededBy unaries facts fact row → IsSettling unaries t →
     IsGiven unaries t now fact entry.price row
-step_given unaries facts t mid now row fact entry facts_is settled_long waiting_long mid_is taken gives below new now_is needs s =
-    let u = unary_there unaries entry.number (taken_within unaries t mid entry taken waiting_long s) in
-    let given : fact ≡ u.unary.gives = gives u.unary u.at in
-    let fresh : is_settled t u.unary.gives ≡ false = ap (is_settled t) (sym given) ∙ settled_mid t mid fact false mid_is new in
-    let pays = taken_pays unaries s.level t mid.waiting entry u.unary u.at taken fresh s.way in
-    let same : slice_set t.costs u.unary.gives entry.price ≡ t.costs = ap (λ (n : ℕ). slice_set t.costs u.unary.gives n) (sym pays.cost_is) ∙ set-get_or t.costs u.unary.gives 4294967295 in
-    let now_here : now ≡ after t u.unary.gives entry.price mid.waiting (t.order ++ entry.number ∷ []) =
-    given_is t mid now u.unary.gives entry mid_is (now_is ∙ ap (λ (f : ℕ). given_at mid f entry.number) given) same in
-    let within : u.unary.gives < length t.costs = omega (arith, given) in
-    let in_flags : u.unary.gives < length t.settled = omega (arith, given) in
-    let as_often : (place : ℕ) (x : Unary) → slice_get unaries place ≡ Some x → occurrences place row ≡ occurrences u.unary.gives x.conds =
-    λ place x at. needed_at unaries facts fact row needs place x at ∙ (needed_same facts fact x.conds below ∙ ap (λ (f : ℕ). occurrences f x.conds) given) in record {
-      way = subst (λ (z : Settlement). IsUnderWay unaries entry.price row z) (sym now_here) (given_way unaries s.level t mid.waiting entry u.unary row u.at within in_flags taken fresh as_often s.way);
-      from = λ without had from. subst (λ (z : Settlement). IsFrom unaries without had z) (sym now_here) (from_given unaries without had s.level t mid.waiting entry u.unary u.at within in_flags taken fresh s.way from);
-      new = settled_mid t mid fact false mid_is new;
-      within = omega arith;
-      settled = ap (λ (z : Settlement). z.settled) now_here ∙ ap (λ (f : ℕ). slice_set t.settled f true) (sym given);
-      costs_long = ap (λ (z : Settlement). length z.costs) now_here ∙ length-set t.costs u.unary.gives entry.price;
-      waiting_long = ap (λ (z : Settlement). length z.waiting) now_here ∙ taken_long t.waiting mid.waiting entry taken;
-    }
+step_given unaries facts t mid now row fact entry facts_is settled_long waiting_long mid_is taken gives below not_yet now_is needs s = rw now_here (record {
+  way = settle_way t fact entry.price mid.waiting order within in_flags new p.small unaries s.level row (let is = p.cost_is in omega arith) p.above (taken_sub t.waiting mid.waiting entry taken) (taken_still unaries t.waiting mid.waiting entry u.unary fact u.at given taken)
+      (λ place among. elim (or_cases (is_among t.order place) (nat_eq place entry.number || false) (sym (list_any-append (nat_eq place) t.order (entry.number ∷ [])) ∙ among)) [
+        | inl before ↦ inl before
+        | inr last ↦ let same = eqb-true place entry.number (sym (or-false (nat_eq place entry.number)) ∙ last) in rw same (inr (u.unary, u.at, p.none_open, given, p.price_is))
+      ]) (λ place x at. needed_at unaries facts fact row needs place x at ∙ needed_same facts fact x.conds below) s.way;
+  from = λ without had from. record {
+    out = λ f. kept t fact entry.price mid.waiting order within in_flags new p.small f ∙ from.out f;
+    settled = λ f. flagged t.settled fact f in_flags ∙ (ap (λ (b : Bool). b || nat_eq f fact) (from.settled f) ∙ (or_assoc (is_among without f) (is_among (gained unaries had t.order) f) (nat_eq f fact) ∙ ap (λ (b : Bool). is_among without f || b) (more had f)));
+    first = λ f among stays. cost_there t fact entry.price mid.waiting order within in_flags new p.small f (λ e. let k : true ≡ false = sym (first_settled unaries without had t f among from) ∙ (ap (is_settled t) e ∙ new) in cc) ∙ from.first f among stays;
+    in_order = rw grows (order_grows had (chosen unaries t.order) u.unary from.in_order (reached_had without had u.unary.conds from conds)
+        (rw given at (or_parts (is_among without fact) (is_among (gained unaries had t.order) fact) (sym (from.settled fact) ∙ new)).1));
+  };
+  new = new;
+  within = in_flags;
+  settled = refl;
+  costs_long = length-set t.costs fact entry.price;
+  waiting_long = ap length taken.rest ∙ length-set t.waiting entry.number None;
+})
+  where
+    order : List ℕ
+    order = t.order ++ entry.number ∷ []
+
+    u : There unaries entry.number
+    u = unary_there unaries entry.number (taken_within unaries t mid entry taken waiting_long s)
+
+    given : fact ≡ u.unary.gives
+    given = gives u.unary u.at
+
+    new : is_settled t fact ≡ false
+    new = settled_mid t mid fact false mid_is not_yet
+
+    p : Pays s.level t entry fact
+    p = taken_pays unaries s.level t mid.waiting entry u.unary fact u.at given taken new s.way
+
+    within : fact < length t.costs
+    within = omega arith
+
+    in_flags : fact < length t.settled
+    in_flags = omega arith
+
+    now_here : now ≡ after t fact entry.price mid.waiting order
+    now_here =
+        now_is ∙ ap (λ (s : Settlement). given_at s fact entry.number) mid_is
+        ∙ ap (λ (costs : List ℕ). record { costs = costs; settled = slice_set t.settled fact true; opens = t.opens; waiting = mid.waiting; order = order }) (sym (ap (slice_set t.costs fact) (sym p.cost_is) ∙ set-get_or t.costs fact 4294967295))
+
+    grows : chosen unaries order ≡ chosen unaries t.order ++ u.unary ∷ []
+    grows = chosen_grows unaries t.order entry.number u.unary u.at
+
+    more : (had : List ℕ) (f : ℕ) → (is_among (gained unaries had t.order) f || nat_eq f fact) ≡ is_among (gained unaries had order) f
+    more had f =
+        rw (grows, map-append (λ (x : Unary). x.gives) (chosen unaries t.order) (u.unary ∷ []), ← append_assoc had (given_by (chosen unaries t.order)) (u.unary.gives ∷ []), list_any-append (nat_eq f) (gained unaries had t.order) (u.unary.gives ∷ []), ← given)
+        (ap (λ (b : Bool). is_among (gained unaries had t.order) f || b) (sym (or-false (nat_eq f fact))))
+
+    conds : list_all (is_reached t) u.unary.conds ≡ true
+    conds = all_reached t u.unary.conds (let count = (s.way.each entry.number u.unary u.at).count in let none = p.none_open in omega (arith, count, none))
+
+    reached_had : (without had list : List ℕ) → IsFrom unaries without had t → list_all (is_reached t) list ≡ true → list_all (is_among (gained unaries had t.order)) list ≡ true
+    reached_had without had list from all = weaker (is_reached t) (is_among (gained unaries had t.order)) list (λ f is. (both (is_among (gained unaries had t.order) f) (not (is_among without f)) (sym (from_reached unaries without had t f from) ∙ is)).0) all
 
 -- and all that need the fact count it
 pub given_later : (unaries : List Unary) (t now last : Settlement) (fact price : ℕ) (row : List ℕ) → IsGiven unaries t now fact price row → IsUnderWay unaries price [] last → HasCounted now last → IsLater unaries t last
@@ -454,7 +371,7 @@ given_less unaries t now last fact price row g counted = settled_less t last fac
 pub waits_later : (unaries : List Unary) (t mid : Settlement) → mid ≡ record t { waiting = mid.waiting } → IsSettling unaries mid → IsLater unaries t mid
 waits_later unaries t mid mid_is way = record {
   way = way;
-  from = λ without had from. subst (λ (z : Settlement). IsFrom unaries without had z) (sym mid_is) (from_passed unaries without had t mid.waiting from);
+  from = λ without had from. subst (λ (z : Settlement). IsFrom unaries without had z) (sym mid_is) (record { out = from.out; settled = from.settled; first = from.first; in_order = from.in_order });
   long = ap (λ (z : Settlement). length z.costs) mid_is;
   stays = λ fact is. ap (λ (z : Settlement). is_settled z fact) mid_is ∙ is;
 }
@@ -464,11 +381,10 @@ pub passed_later : (unaries : List Unary) (t mid : Settlement) (fact : ℕ) (ent
     is_settled mid fact ≡ true → IsSettling unaries t → IsLater unaries t mid
 passed_later unaries t mid fact entry waiting_long mid_is taken gives old s =
     let u = unary_there unaries entry.number (taken_within unaries t mid entry taken waiting_long s) in
-    let was : is_settled t u.unary.gives ≡ true = ap (is_settled t) (sym (gives u.unary u.at)) ∙ settled_mid t mid fact true mid_is old in
-    waits_later unaries t mid mid_is (record { level = entry.price; way = subst (λ (z : Settlement). IsUnderWay unaries entry.price [] z) (sym mid_is) (passed_way unaries s.level t mid.waiting entry u.unary u.at taken was s.way) })
+    waits_later unaries t mid mid_is (record { level = entry.price; way = rw mid_is (passed_way unaries s.level t mid.waiting entry u.unary fact u.at (gives u.unary u.at) taken (settled_mid t mid fact true mid_is old) s.way) })
 
 pub passed_less_now : (t mid : Settlement) (entry : Entry) → mid ≡ record t { waiting = mid.waiting } → IsTaken t.waiting mid.waiting entry → left_to_do mid < left_to_do t
-passed_less_now t mid entry mid_is taken = passed_less t mid entry taken (ap (λ (s : Settlement). s.settled) mid_is) (taken_long t.waiting mid.waiting entry taken)
+passed_less_now t mid entry mid_is taken = passed_less t mid entry taken (ap (λ (s : Settlement). s.settled) mid_is) (ap length taken.rest ∙ length-set t.waiting entry.number None)
 
 -- none waits
 pub none_later : (unaries : List Unary) (t mid : Settlement) → mid ≡ record t { waiting = mid.waiting } → mid.waiting ≡ t.waiting → IsSettling unaries t → IsLater unaries t mid
@@ -526,109 +442,105 @@ fresh_way unaries t row free f = record {
           offered = λ none kept. absurd (omega (arith, count, none));
         }
 
-pub fresh_from : (unaries : List Unary) (t : Settlement) → IsFresh unaries t → (without : List ℕ) → ((fact : ℕ) → is_settled t fact ≡ is_among without fact) → IsFrom unaries without [] t
-fresh_from unaries t f without flags = record {
-  out = λ fact. (let large = lt-leb (cost_at t fact) 1000000000 (f.costs fact) in ap (λ (b : Bool). is_settled t fact && not b) large ∙ (and_true (is_settled t fact) ∙ flags fact));
-  reached = λ fact. none_reached unaries t f fact ∙ ap (λ (order : List ℕ). is_among ([] ++ given_by (chosen unaries order)) fact && not (is_among without fact)) (sym f.order);
-  first = λ fact among stays. (let k : false ≡ true = among in absurd cc);
-  in_order = subst (λ (order : List ℕ). IsInOrder [] (chosen unaries order)) (sym f.order) tt;
-}
-
 -- a fact that is there at first is settled at no cost
 pub there_way : (unaries : List Unary) (facts : ℕ) (t now : Settlement) (fact : ℕ) (row : List ℕ) → facts ≡ length t.costs → length t.settled ≡ length t.costs → fact < length t.costs → is_settled t fact ≡ false → now ≡ there_at t fact → IsNeededBy unaries facts fact row → IsUnderWay unaries 0 [] t →
     IsUnderWay unaries 0 row now
 there_way unaries facts t now fact row facts_is settled_long within new is needs way =
-    subst (λ (s : Settlement). IsUnderWay unaries 0 row s) (sym is)
-    (settle_way unaries 0 t fact 0 t.waiting t.order row within (omega arith) new (omega arith) (omega arith) (omega arith) (λ place price at. (at, omega arith)) (λ place u at ne price waits. waits) (λ place among. inl among)
+    rw is (settle_way t fact 0 t.waiting t.order within (omega arith) new (omega arith) unaries 0 row (omega arith) (omega arith) (λ place price at. (at, omega arith)) (λ place u at ne price waits. waits) (λ place among. inl among)
     (λ place u at. needed_at unaries facts fact row needs place u at ∙ needed_same facts fact u.conds (omega arith)) way)
 
--- what is there, and one fact more
-no_order : (unaries : List Unary) (had : List ℕ) (t : Settlement) (f : ℕ) → t.order ≡ [] → is_among (had ++ given_by (chosen unaries t.order)) f ≡ is_among had f
-no_order unaries had t f none = ap (λ (order : List ℕ). is_among (had ++ given_by (chosen unaries order)) f) none ∙ ap (λ (xs : List ℕ). is_among xs f) (append-nil had)
-
-or_more : (had : List ℕ) (fact other : ℕ) → is_among (had ++ fact ∷ []) other ≡ (is_among had other || nat_eq other fact)
-or_more had fact other = list_any-append (nat_eq other) had (fact ∷ []) ∙ ap (λ (b : Bool). is_among had other || b) (or_false (nat_eq other fact))
-
-there_from : (unaries : List Unary) (without had : List ℕ) (t : Settlement) (fact : ℕ) → length t.settled ≡ length t.costs → fact < length t.costs → is_settled t fact ≡ false → t.order ≡ [] → IsFrom unaries without had t → IsFrom unaries without (had ++ fact ∷ []) (there_at t fact)
-there_from unaries without had t fact settled_long within new none from =
-    from_settled unaries without had (had ++ fact ∷ []) t.order t fact 0 t.waiting within (omega arith) new (omega arith)
-    (λ f. no_order unaries (had ++ fact ∷ []) t f none ∙ (or_more had fact f ∙ ap (λ (b : Bool). b || nat_eq f fact) (sym (no_order unaries had t f none))))
-    (λ f among. elim (or_cases (is_among had f) (nat_eq f fact) (sym (or_more had fact f) ∙ among)) [ inl was ↦ inl was | inr is ↦ inr (eqb-true f fact is, refl) ])
-    (subst (λ (order : List ℕ). IsInOrder (had ++ fact ∷ []) (chosen unaries order)) (sym none) tt) from
-
--- one that is settled already is there, or left out
-pub old_from : (unaries : List Unary) (without had : List ℕ) (t : Settlement) (fact : ℕ) → is_settled t fact ≡ true → t.order ≡ [] → IsUnderWay unaries 0 [] t → IsFrom unaries without had t → IsFrom unaries without (had ++ fact ∷ []) t
-old_from unaries without had t fact old none way from = record {
-  out = from.out;
-  reached = λ f. elim (places f fact) [
-    | inl here ↦
-        let among = no_order unaries (had ++ fact ∷ []) t f none ∙ (or_more had fact f ∙ (ap (λ (b : Bool). is_among had f || b) here.1 ∙ or_true (is_among had f))) in
-        ends f (ap (is_settled t) here.0 ∙ old) ∙ ap (λ (b : Bool). b && not (is_among without f)) (sym among)
-    | inr there ↦
-        let among = no_order unaries (had ++ fact ∷ []) t f none ∙ (or_more had fact f ∙ (ap (λ (b : Bool). is_among had f || b) there.1 ∙ or_false (is_among had f))) in
-        from.reached f ∙ ap (λ (b : Bool). b && not (is_among without f)) (no_order unaries had t f none ∙ sym among)
-  ];
-  first = λ f among stays. elim (places f fact) [
-    | inl here ↦ let low = way.low f (ends f (ap (is_settled t) here.0 ∙ old) ∙ rw stays refl) in omega (arith, low)
-    | inr there ↦ from.first f (sym (or_false (is_among had f)) ∙ (ap (λ (b : Bool). is_among had f || b) (sym there.1) ∙ (sym (or_more had fact f) ∙ among))) stays
-  ];
-  in_order = subst (λ (order : List ℕ). IsInOrder (had ++ fact ∷ []) (chosen unaries order)) (sym none) tt;
-}
-  where
-    by_cost : (a b c : Bool) → a ≡ true → c ≡ (a && not b) → (a && b) ≡ (true && not c)
-    by_cost true true c is out = rw out refl
-    by_cost true false c is out = rw out refl
-    by_cost false b c is out = let k : false ≡ true = is in absurd cc
-
-    ends : (f : ℕ) → is_settled t f ≡ true → is_reached t f ≡ (true && not (is_among without f))
-    ends f is = by_cost (is_settled t f) (nat_le (cost_at t f) 1000000000) (is_among without f) is (sym (from.out f))
-
--- some facts are there at first, and one fact more
-pub marked_more : (unaries : List Unary) (facts : List ℕ) (fact : ℕ) (s t now : Settlement) → HasMarked unaries facts s t → HasMarked unaries (fact ∷ []) t now → HasMarked unaries (facts ++ fact ∷ []) s now
-marked_more unaries facts fact s t now a b = record {
+-- some facts are there at first, and some more
+pub marked_more : (unaries : List Unary) (facts more : List ℕ) (s t now : Settlement) → HasMarked unaries facts s t → HasMarked unaries more t now → HasMarked unaries (facts ++ more) s now
+marked_more unaries facts more s t now a b = record {
   way = b.way;
-  from = λ without had below none from. (let parts = both (list_all (is_below (length s.costs)) facts) (list_all (is_below (length s.costs)) (fact ∷ [])) (sym (list_all-append (is_below (length s.costs)) facts (fact ∷ [])) ∙ below) in
-      let last : list_all (is_below (length t.costs)) (fact ∷ []) ≡ true = rw a.long parts.1 in
-      rw (← append_assoc had facts (fact ∷ [])) (b.from without (had ++ facts) last (a.order ∙ none) (a.from without had parts.0 none from)));
+  settled = λ f. b.settled f ∙ rw (a.settled f, a.long, list_any-append (nat_eq f) facts more) (turn (is_settled s f) (is_among facts f) (is_among more f) (is_below (length s.costs) f));
+  out = λ f. b.out f ∙ a.out f;
   order = b.order ∙ a.order;
   long = b.long ∙ a.long;
 }
+  where
+    turn : (a b c n : Bool) → ((a || (b && n)) || (c && n)) ≡ (a || ((b || c) && n))
+    turn true b c n = refl
+    turn false true true true = refl
+    turn false true true false = refl
+    turn false true false n = or-false n
+    turn false false c n = refl
 
-pub none_marked : (unaries : List Unary) (t : Settlement) → IsUnderWay unaries 0 [] t → HasMarked unaries [] t t
-none_marked unaries t way = record { way = way; from = λ without had below none from. rw (append-nil had) from; order = refl; long = refl }
+pub counted_marked : (unaries : List Unary) (t now : Settlement) → IsUnderWay unaries 0 [] now → HasCounted t now → HasMarked unaries [] t now
+counted_marked unaries t now way counted = record {
+  way = way;
+  settled = λ f. rw counted.settled (sym (or-false (is_settled t f)));
+  out = λ f. (reached_same t now counted.settled counted.kept f).1;
+  order = counted.order;
+  long = counted.costs_long;
+}
 
 -- a list is marked one by one
+pub none_marked : (unaries : List Unary) (t : Settlement) → IsUnderWay unaries 0 [] t → HasMarked unaries [] t t
+none_marked unaries t way = counted_marked unaries t t way (record { settled = refl; order = refl; costs_long = refl; waiting_long = refl; kept = λ fact is. refl })
+
 pub taken_marked : (unaries : List Unary) (facts : List ℕ) (k fact : ℕ) (s t now : Settlement) → k < length facts → fact ≡ get_or facts k 0 → HasMarked unaries (take k facts) s t → HasMarked unaries (fact ∷ []) t now → HasMarked unaries (take (k + 1) facts) s now
-taken_marked unaries facts k fact s t now lt at a b = rw (take_more facts k 0 lt, ← at) (marked_more unaries (take k facts) fact s t now a b)
+taken_marked unaries facts k fact s t now lt at a b = rw (take_more facts k 0 lt, ← at) (marked_more unaries (take k facts) (fact ∷ []) s t now a b)
 
 pub all_marked : (unaries : List Unary) (facts : List ℕ) (k : ℕ) (s t : Settlement) → length facts ≤ k → HasMarked unaries (take k facts) s t → HasMarked unaries facts s t
-all_marked unaries facts k s t le a = subst (λ (xs : List ℕ). HasMarked unaries xs s t) (take_all k facts le) a
+all_marked unaries facts k s t le a = rw take_all at a
 
 -- a fact that was not settled
 pub there_marked : (unaries : List Unary) (t mid now : Settlement) (fact : ℕ) → length t.settled ≡ length t.costs → fact < length t.costs → is_settled t fact ≡ false → mid ≡ there_at t fact → IsUnderWay unaries 0 [] now → HasCounted mid now → HasMarked unaries (fact ∷ []) t now
 there_marked unaries t mid now fact long within new mid_is way counted = record {
   way = way;
-  from = λ without had below none from. from_counted unaries without (had ++ fact ∷ []) mid now counted (subst (λ (s : Settlement). IsFrom unaries without (had ++ fact ∷ []) s) (sym mid_is) (there_from unaries without had t fact long within new none from));
-  order = counted.order ∙ ap (λ (s : Settlement). s.order) mid_is;
-  long = counted.costs_long ∙ (ap (λ (s : Settlement). length s.costs) mid_is ∙ length-set t.costs fact 0);
+  settled = λ f. later.settled f ∙ (or-false (is_settled (there_at t fact) f) ∙ (flagged t.settled fact f (omega arith) ∙ elim (places f fact) [
+    | inl here ↦ rw (here.1, here.0, lt-ltb fact (length t.costs) within) refl
+    | inr apart ↦ rw apart.1 refl
+  ]));
+  out = λ f. later.out f ∙ kept t fact 0 t.waiting t.order within (omega arith) new (omega arith) f;
+  order = later.order;
+  long = later.long ∙ length-set t.costs fact 0;
 }
+  where
+    later : HasMarked unaries [] (there_at t fact) now
+    later = counted_marked unaries (there_at t fact) now way (rw mid_is at counted)
 
 -- a fact that was settled already, or isn't there
 pub old_marked : (unaries : List Unary) (t : Settlement) (fact : ℕ) → (fact < length t.costs → is_settled t fact ≡ true) → IsUnderWay unaries 0 [] t → HasMarked unaries (fact ∷ []) t t
 old_marked unaries t fact old way = record {
   way = way;
-  from = λ without had below none from. old_from unaries without had t fact (old (ltb-true fact (length t.costs) (sym (and_true (nat_lt fact (length t.costs))) ∙ below))) none way from;
+  settled = λ f. elim (places f fact) [
+    | inl here ↦ rw (here.1, here.0) (by_test (is_below (length t.costs) fact) refl)
+    | inr apart ↦ rw apart.1 (sym (or-false (is_settled t f)))
+  ];
+  out = λ f. refl;
   order = refl;
   long = refl;
 }
+  where
+    by_test : (b : Bool) → is_below (length t.costs) fact ≡ b → is_settled t fact ≡ (is_settled t fact || b)
+    by_test true is = rw (old (ltb-true fact (length t.costs) is)) refl
+    by_test false is = sym (or-false (is_settled t fact))
+
+-- What is there after some facts were marked, where nothing was reached.
+pub begun : (unaries : List Unary) (without had : List ℕ) (t now : Settlement) → IsFresh unaries t → ((fact : ℕ) → is_settled t fact ≡ is_among without fact) → list_all (is_below (length t.costs)) had ≡ true → HasMarked unaries had t now → IsFrom unaries without had now
+begun unaries without had t now fresh flags below marked = record {
+  out = out;
+  settled = settled;
+  first = λ f among stays. (let low = marked.way.low f (reached_if now f (settled f ∙ rw (none, append-nil had, among) (or-true (is_among without f))) (out f ∙ stays)) in omega (arith, low));
+  in_order = rw none tt;
+}
+  where
+    none : now.order ≡ []
+    none = marked.order ∙ fresh.order
+
+    out : (f : ℕ) → is_left_out now f ≡ is_among without f
+    out f = marked.out f ∙ (let large = lt-leb (cost_at t f) 1000000000 (fresh.costs f) in rw large (and-true (is_settled t f) ∙ flags f))
+
+    by_among : (f : ℕ) (b : Bool) → is_among had f ≡ b → (b && is_below (length t.costs) f) ≡ b
+    by_among f true among = all_has over_numbers (is_below (length t.costs)) had f below among
+    by_among f false among = refl
+
+    settled : (f : ℕ) → is_settled now f ≡ (is_among without f || is_among (gained unaries had now.order) f)
+    settled f = rw (none, append-nil had) (marked.settled f ∙ rw (flags f, by_among f (is_among had f) refl) refl)
 
 -- one fact more is left out
 pub out_more : (numbers : List ℕ) (old new : List Bool) (k number : ℕ) → k < length numbers → number ≡ get_or numbers k 0 → number < length old → new ≡ slice_set old number true → ((fact : ℕ) → get_or old fact false ≡ is_among (take k numbers) fact) →
     (fact : ℕ) → get_or new fact false ≡ is_among (take (k + 1) numbers) fact
-out_more numbers old new k number lt at within is so fact =
-    rw (is, list_any_more (nat_eq fact) numbers k 0 lt, ← at) (elim (places fact number) [
-      | inl here ↦
-          let set_there : get_or (slice_set old number true) number false ≡ true = get_or-set_same old number true false within in
-          rw here.1 (ap (λ (f : ℕ). get_or (slice_set old number true) f false) here.0 ∙ (set_there ∙ sym (or_true (is_among (take k numbers) fact))))
-      | inr other ↦ rw other.1 (get_or-set_other old number fact true false other.0 ∙ (so fact ∙ sym (or_false (is_among (take k numbers) fact))))
-    ])
+out_more numbers old new k number lt at within is so fact = rw (is, list_any_more (nat_eq fact) numbers k 0 lt, ← at, ← so fact) (flagged old number fact within)

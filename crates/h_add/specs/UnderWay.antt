@@ -1,5 +1,5 @@
 -- What is true of an evaluation under way.
-use Rattle.std.specs.Prelude.{◌≡◌, ℕ, ◌+◌, ◌*◌, ◌≤◌, ◌<◌, List, [], ◌∷◌, ◌++◌, length, map, min, Bool, true, false, not, ◌&&◌, ◌⊎◌, slice_get, Some, if◌then◌else◌}
+use Rattle.std.specs.Prelude.{◌≡◌, ℕ, ◌+◌, ◌*◌, ◌≤◌, ◌<◌, List, [], ◌∷◌, ◌++◌, length, map, min, Bool, true, false, not, ◌&&◌, ◌||◌, ◌⊎◌, slice_get, Some, if◌then◌else◌}
 use Rattle.std.specs.List.{list_all}
 use Rattle.cost_queue.specs.Occurrences.{one_if, occurrences}
 use Rattle.cost_queue.specs.Queues.{price_of, waiting_count, IsIdle}
@@ -86,7 +86,7 @@ IsOut without t = (fact : ℕ) → is_left_out t fact ≡ is_among without fact
 -- from the facts that were there at first, and those that the order gave
 pub record IsFrom (unaries : List Unary) (without had : List ℕ) (t : Settlement) : Type 0 where
   pub out : IsOut without t
-  pub reached : (fact : ℕ) → is_reached t fact ≡ (is_among (had ++ given_by (chosen unaries t.order)) fact && not (is_among without fact))
+  pub settled : (fact : ℕ) → is_settled t fact ≡ (is_among without fact || is_among (had ++ given_by (chosen unaries t.order)) fact)
   pub first : (fact : ℕ) → is_among had fact ≡ true → is_among without fact ≡ false → cost_at t fact ≡ 0
   pub in_order : IsInOrder had (chosen unaries t.order)
 
@@ -101,7 +101,8 @@ pub record HasCounted (old new : Settlement) : Type 0 where
 -- before any unary operator settled a fact, some facts more are there at first
 pub record HasMarked (unaries : List Unary) (facts : List ℕ) (old new : Settlement) : Type 0 where
   pub way : IsUnderWay unaries 0 [] new
-  pub from : (without had : List ℕ) → list_all (is_below (length old.costs)) facts ≡ true → old.order ≡ [] → IsFrom unaries without had old → IsFrom unaries without (had ++ facts) new
+  pub settled : (fact : ℕ) → is_settled new fact ≡ (is_settled old fact || (is_among facts fact && is_below (length old.costs) fact))
+  pub out : (fact : ℕ) → is_left_out new fact ≡ is_left_out old fact
   pub order : new.order ≡ old.order
   pub long : length new.costs ≡ length old.costs
 
