@@ -1,5 +1,5 @@
 -- What is reached costs what it does by the rounds.
-use Rattle.std.proofs.Common.{◌≡◌, ◌∙◌, ap, subst, ℕ, zero, suc, List, [], ◌∷◌, Bool, true, false, nat_eq, if◌then◌else◌, Some, slice_get, refl, sym, ◌≤◌, inl, inr, ◌++◌, length, nat_le, nat_lt, not, ◌&&◌, ◌||◌, arith, None, map, ◌⊎◌, ◌<◌, ◌+◌}
+use Rattle.std.proofs.Common.{◌≡◌, ◌∙◌, ap, subst, ℕ, zero, suc, List, [], ◌∷◌, Bool, true, false, nat_eq, if◌then◌else◌, Some, refl, sym, inl, inr, ◌++◌, length, nat_le, nat_lt, not, ◌||◌, arith, None, map, ◌⊎◌, ◌<◌, ◌+◌}
 use Rattle.std.proofs.Math.Bool.{or-false}
 use Rattle.std.proofs.lemmas.Bool.{cases_lt, eqb-true, false_from_ne_true, leb-true, leb-false, lt-ltb}
 use Rattle.lama_num.specs.declared.estimates.Estimate.{Estimate}
@@ -18,14 +18,14 @@ use Rattle.cost_queue.specs.Occurrences.{one_if}
 use Rattle.cost_queue.specs.Queues.{IsIdle}
 use Rattle.lama_num.specs.Estimates.{estimate_sum}
 use Rattle.lama_num.specs.Lists.{both}
-use Rattle.h_add.proofs.Steps.{turned, from_reached, reached_if}
+use Rattle.h_add.proofs.Steps.{turned, from_reached}
 use Rattle.relaxed_task.specs.Elements.{denied}
 use Rattle.std.proofs.lemmas.List.{append-nil}
 use Rattle.h_add.specs.Orders.{chosen, given_by, are_places, IsOrder}
 use Rattle.h_add.specs.Settlements.{Settlement, cost_at, is_settled, is_reached, is_left_out, open_at}
 use Rattle.h_add.specs.UnderWay.{one_open, summed, IsCounted, IsWanted, HasSettled, IsUnderWay, IsSettling, IsFrom, AreSettled}
 use Rattle.h_add.specs.Values.{estimate_of, value_at, IsEvaluatedByNumber}
-use Rattle.h_add.proofs.Reaching.{finite_is, infinite_is, reached_small, price_sum, itself}
+use Rattle.h_add.proofs.Reaching.{finite_is, infinite_is, reached_small, price_sum, reached_if, itself}
 use Rattle.sas_task.specs.declared.contents.CostKind.{CostKind}
 use Rattle.sas_task.specs.declared.contents.Fact.{Fact}
 use Rattle.sas_task.specs.declared.contents.Parts.{Parts}

@@ -1,19 +1,18 @@
 -- What is reached, counted and paid.
-use Rattle.std.proofs.Common.{◌≡◌, ◌≢◌, ◌∙◌, sym, ap, refl, ℕ, ◌+◌, ◌*◌, ◌<◌, ◌≤◌, ◌⊎◌, inl, inr, List, [], ◌∷◌, get_or, min, Bool, true, false, nat_eq, nat_le, not, ◌&&◌, ◌||◌, arith, length, Some, slice_get, if◌then◌else◌}
+use Rattle.std.proofs.Common.{◌≡◌, ◌≢◌, ◌∙◌, sym, ap, refl, ℕ, ◌+◌, ◌*◌, ◌<◌, ◌≤◌, inl, inr, List, [], ◌∷◌, get_or, min, Bool, true, false, nat_eq, nat_le, not, ◌&&◌, arith, Some, slice_get}
 use Rattle.std.specs.List.{list_all}
 use Rattle.std.proofs.lemmas.Bool.{eq-eqb, le-leb, lt-leb, leb-true}
 use Rattle.cost_queue.specs.Occurrences.{one_if, occurrences}
-use Rattle.lama_num.specs.Estimates.{estimate_sum}
 use Rattle.lama_num.specs.Lists.{both}
 use Rattle.lama_num.specs.declared.estimates.Estimate.{Estimate}
 use Rattle.lama_num.specs.declared.estimates.Estimate.TheVariants.{Finite, Infinite}
-use Rattle.relaxed_task.specs.Elements.{places, join}
+use Rattle.relaxed_task.specs.Elements.{places}
 use Rattle.relaxed_task.specs.Relaxing.{sum_of as total}
 use Rattle.h_add.specs.ByNumber.{price}
 use Rattle.relaxed_task.specs.declared.unary.Unary.{Unary}
 use Rattle.h_add.specs.Settlements.{Settlement, cost_at, is_settled, is_reached, is_left_out, open_at}
 use Rattle.h_add.specs.UnderWay.{one_open, share, summed, IsUnderWay}
-use Rattle.h_add.specs.Values.{estimate_of, value_at}
+use Rattle.h_add.specs.Values.{estimate_of}
 
 -- tests that are decided
 pub itself : (n : ℕ) → nat_eq n n ≡ true
@@ -28,6 +27,14 @@ infinite_is cost lt = rw (lt-leb cost 1000000000 lt) refl
 -- what is reached is settled, and costs little
 pub reached_small : (t : Settlement) (fact : ℕ) → is_reached t fact ≡ true → (is_settled t fact ≡ true) × (cost_at t fact ≤ 1000000000)
 reached_small t fact is = let parts = both (is_settled t fact) (nat_le (cost_at t fact) 1000000000) is in (parts.0, leb-true (cost_at t fact) 1000000000 parts.1)
+
+-- what is settled, and not left out, is reached
+pub reached_if : (t : Settlement) (fact : ℕ) → is_settled t fact ≡ true → is_left_out t fact ≡ false → is_reached t fact ≡ true
+reached_if t fact is kept = by_test (nat_le (cost_at t fact) 1000000000) (rw is at kept)
+  where
+    by_test : (b : Bool) → (true && not b) ≡ false → (is_settled t fact && b) ≡ true
+    by_test true kept = rw is refl
+    by_test false kept = let k : true ≡ false = kept in cc
 
 -- what isn't settled is neither reached nor left out
 pub unsettled_not : (t : Settlement) (fact : ℕ) → is_settled t fact ≡ false → (is_reached t fact ≡ false) × (is_left_out t fact ≡ false)

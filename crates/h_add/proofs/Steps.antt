@@ -1,23 +1,23 @@
 -- One fact after the other is settled, or passed over.
-use Rattle.std.proofs.Common.{◌≡◌, ◌≢◌, ◌∙◌, sym, ap, subst, refl, ℕ, zero, suc, ◌+◌, ◌*◌, ◌<◌, ◌≤◌, ◌⊎◌, inl, inr, List, [], ◌∷◌, ◌++◌, length, get_or, min, Bool, true, false, nat_eq, nat_lt, nat_le, not, ◌&&◌, ◌||◌, if◌then◌else◌, arith, Option, Some, None, slice_get, slice_set, get_or-set_other, get_or-set_same, append_assoc, max, take}
+use Rattle.std.proofs.Common.{◌≡◌, ◌≢◌, ◌∙◌, sym, ap, subst, refl, ℕ, ◌+◌, ◌*◌, ◌<◌, ◌≤◌, ◌⊎◌, inl, inr, List, [], ◌∷◌, ◌++◌, length, get_or, min, Bool, true, false, nat_eq, nat_le, not, ◌&&◌, ◌||◌, if◌then◌else◌, arith, Option, Some, None, slice_get, slice_set, get_or-set_other, get_or-set_same, append_assoc, max, take}
 use Rattle.std.proofs.Math.Bool.{or_assoc, or-false, or-true, and-true}
 use Rattle.std.proofs.lemmas.Bool.{and_right, or_parts, lt-ltb, cases_lt, eqb-true, le-leb, or_cases, lt-leb, ltb-true}
 use Rattle.std.proofs.lemmas.List.{length-set, set_past, map-append, append-nil, set-get_or, take_more, take_all, get_or-map, length-map}
-use Rattle.std.proofs.lemmas.List.Folds.{list_any-append, list_any_more, list_all-append}
+use Rattle.std.proofs.lemmas.List.Folds.{list_any-append, list_any_more}
 use Rattle.std.proofs.lemmas.List.Sums.{sum_by-set}
 use Rattle.cost_queue.specs.Occurrences.{one_if, occurrences}
 use Rattle.cost_queue.specs.Queues.{price_of, IsTaken}
 use Rattle.cost_queue.specs.Laws.{taken_fewer, waiting_within, there}
 use Rattle.cost_queue.specs.declared.entry.Entry.{Entry}
-use Rattle.relaxed_task.specs.Elements.{places, join}
+use Rattle.relaxed_task.specs.Elements.{places}
 use Rattle.relaxed_task.specs.NumberLaws.{weaker}
 use Rattle.relaxed_task.specs.PlanLaws.{all_has}
 use Rattle.relaxed_task.specs.Numbers.{is_among, is_below, over_numbers}
 use Rattle.relaxed_task.specs.declared.unary.Unary.{Unary}
 use Rattle.h_add.specs.declared.network.Open.{Open}
 use Rattle.h_add.specs.Settlements.{Settlement, cost_at, is_settled, is_reached, is_left_out, open_at, unsettled, given_at, there_at}
-use Rattle.h_add.specs.UnderWay.{one_open, share, summed, IsCounted, IsWaiting, IsWanted, HasSettled, IsUnderWay, left_to_do, IsFrom, HasCounted, IsSettling, IsLater, IsFresh, HasMarked}
-use Rattle.h_add.proofs.Reaching.{reached_small, unsettled_not, sum_changed, reached_same, all_reached}
+use Rattle.h_add.specs.UnderWay.{one_open, share, summed, IsCounted, IsWaiting, IsUnderWay, left_to_do, IsFrom, HasCounted, IsSettling, IsLater, IsFresh, HasMarked}
+use Rattle.h_add.proofs.Reaching.{reached_if, unsettled_not, sum_changed, reached_same, all_reached}
 use Rattle.std.specs.List.{list_all}
 use Rattle.std.proofs.Math.Path.{fun_ext}
 use Rattle.std.proofs.lemmas.Option.{slice_get_within, get_or_from_slice_get}
@@ -245,13 +245,6 @@ from_reached unaries without had t fact from = by_flags (is_settled t fact) (nat
     by_flags true true w g out is = rw (← out, ← (rw (← out) at is)) refl
     by_flags true false w g out is = rw (← out) (sym (and_right g false refl))
     by_flags false b w g out is = rw (← (rw (← out) at is)) refl
-
-pub reached_if : (t : Settlement) (fact : ℕ) → is_settled t fact ≡ true → is_left_out t fact ≡ false → is_reached t fact ≡ true
-reached_if t fact is kept = by_test (nat_le (cost_at t fact) 1000000000) (rw is at kept)
-  where
-    by_test : (b : Bool) → (true && not b) ≡ false → (is_settled t fact && b) ≡ true
-    by_test true kept = rw is refl
-    by_test false kept = let k : true ≡ false = kept in cc
 
 first_settled : (unaries : List Unary) (without had : List ℕ) (t : Settlement) (fact : ℕ) → is_among had fact ≡ true → IsFrom unaries without had t → is_settled t fact ≡ true
 first_settled unaries without had t fact among from = from.settled fact ∙ rw (list_any-append (nat_eq fact) had (given_by (chosen unaries t.order)), among) (or-true (is_among without fact))

@@ -1,5 +1,5 @@
 -- What is true of an evaluation under way.
-use Rattle.std.specs.Prelude.{◌≡◌, ℕ, ◌+◌, ◌*◌, ◌≤◌, ◌<◌, List, [], ◌∷◌, ◌++◌, length, map, min, Bool, true, false, not, ◌&&◌, ◌||◌, ◌⊎◌, slice_get, Some, if◌then◌else◌}
+use Rattle.std.specs.Prelude.{◌≡◌, ℕ, ◌+◌, ◌*◌, ◌≤◌, ◌<◌, List, [], ◌∷◌, ◌++◌, length, map, min, true, false, not, ◌&&◌, ◌||◌, ◌⊎◌, slice_get, Some, if◌then◌else◌}
 use Rattle.std.specs.List.{list_all}
 use Rattle.cost_queue.specs.Occurrences.{one_if, occurrences}
 use Rattle.cost_queue.specs.Queues.{price_of, waiting_count, IsIdle}

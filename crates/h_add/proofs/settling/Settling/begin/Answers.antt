@@ -1,4 +1,4 @@
-use Rattle.std.proofs.Common.{◌∙◌, ◌≡◌, sym, length, true}
+use Rattle.std.proofs.Common.{◌∙◌, ◌≡◌, length, true}
 use Rattle.std.specs.List.{list_all}
 use Rattle.std.proofs.lemmas.List.Folds.{list_all-append}
 use Rattle.relaxed_task.specs.Elements.{join}
