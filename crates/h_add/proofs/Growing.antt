@@ -13,8 +13,8 @@ use Rattle.relaxed_task.specs.Numbers.{is_below, is_unary_below}
 use Rattle.relaxed_task.specs.Elements.{places, join}
 use Rattle.relaxed_task.specs.NumberLaws.{weaker}
 use Rattle.h_add.proofs.Reaching.{itself}
-use Rattle.h_add.specs.Listings.{Listed}
-use Rattle.h_add.specs.Networks.{are_within, are_below, needed, IsNeeds, IsNeededBy, AreFree}
+use Rattle.h_add.specs.Orders.{are_places}
+use Rattle.h_add.specs.Networks.{are_below, needed, IsNeeds, IsNeededBy, AreFree, Listed}
 
 occurrences_last : (x : ℕ) (ys : List ℕ) (y : ℕ) → occurrences x (ys ++ y ∷ []) ≡ occurrences x ys + one_if (nat_eq x y)
 occurrences_last x [] y = omega arith
@@ -72,14 +72,14 @@ needed_at unaries always fact row needs i u at =
     needs i ∙ (get_or-map (λ x. occurrences fact (needed always x.conds)) unaries i u 0 (slice_get_within unaries i u at) ∙ ap (λ (x : Unary). occurrences fact (needed always x.conds)) (get_or_from_slice_get unaries i u u at))
 
 -- a row has places of unary operators alone
-all_within : (n : ℕ) (row : List ℕ) → ((i : ℕ) → n ≤ i → occurrences i row ≡ 0) → are_within n row ≡ true
+all_within : (n : ℕ) (row : List ℕ) → ((i : ℕ) → n ≤ i → occurrences i row ≡ 0) → are_places n row ≡ true
 all_within n [] none = refl
 all_within n (c ∷ row) none = elim (cases_lt c n) [
   | inl lt ↦ rw (lt-ltb c n lt) (all_within n row (λ i le. let all = none i le in omega (arith, all)))
   | inr le ↦ absurd (let all = none c le in let one : one_if (nat_eq c c) ≡ 1 = ap one_if (itself c) in omega (arith, all, one))
 ]
 
-pub row_within : (unaries : List Unary) (always fact : ℕ) (row : List ℕ) → IsNeededBy unaries always fact row → are_within (length unaries) row ≡ true
+pub row_within : (unaries : List Unary) (always fact : ℕ) (row : List ℕ) → IsNeededBy unaries always fact row → are_places (length unaries) row ≡ true
 row_within unaries always fact row needs =
     all_within (length unaries) row (λ i le. needs i ∙ get_or_past (map (λ x. occurrences fact (needed always x.conds)) unaries) i 0 (let long = length-map unaries (λ x. occurrences fact (needed always x.conds)) in omega (arith, long, le)))
 

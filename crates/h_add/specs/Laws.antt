@@ -1,9 +1,11 @@
 -- Laws of evaluated states, for those who build on the estimate.
-use Rattle.std.specs.Prelude.{◌≡◌, ℕ, suc, List, [], ◌∷◌, ◌++◌, Bool, true, false, not, ◌&&◌, ◌||◌, ◌↔◌, nat_eq, Some, slice_get}
+use Rattle.std.specs.Prelude.{◌≡◌, ℕ, List, length, [], ◌∷◌, ◌++◌, Bool, true, false, not, ◌&&◌, ◌||◌, ◌↔◌, nat_eq, Some, slice_get}
 use Rattle.std.specs.List.{list_all, list_any}
 use Rattle.std.proofs.Common.{refl, sym, ap, ◌∙◌}
 use Rattle.std.proofs.lemmas.Bool.{both_ways, eq-eqb, false_from_ne_true, not-false, not-true, not_from_false, not_from_true, true_from_ne_false}
 use Rattle.std.proofs.lemmas.List.Elements.{filter_map-append}
+use Rattle.std.proofs.lemmas.List.Folds.{Any-from_list_any}
+use Rattle.std.proofs.lemmas.Option.{slice_get_read}
 use Rattle.lama_num.specs.Lists.{list_all_get}
 use Rattle.lama_num.specs.declared.estimates.Estimate.{Estimate}
 use Rattle.lama_num.specs.declared.estimates.Estimate.TheVariants.{Infinite}
@@ -70,31 +72,13 @@ total_finite value (fact ∷ facts) = finite_plus (value fact) (total value fact
     same true b = refl
     same false b = refl
 
--- an element that passes a test
-record Found {X : Type 0} (p : X → Bool) (xs : List X) : Type 0 where
-  place : ℕ
-  element : X
-  at : slice_get xs place ≡ Some element
-  passes : p element ≡ true
-
-found_in : {X : Type 0} (p : X → Bool) (xs : List X) → list_any p xs ≡ true → Found p xs
-found_in p [] any = let k : false ≡ true = any in cc
-found_in p (x ∷ xs) any = by_test (p x) refl any (found_in p xs)
-  where
-    by_test : (b : Bool) → p x ≡ b → (b || list_any p xs) ≡ true → (list_any p xs ≡ true → Found p xs) → Found p (x ∷ xs)
-    by_test true is any rest = record { place = 0; element = x; at = refl; passes = is }
-    by_test false is any rest = let found = rest any in record { place = suc found.place; element = found.element; at = found.at; passes = found.passes }
-
 -- the sum over the goal facts is infinite exactly where the state is dead
 pub dead_by_goals : (parts : Parts) (kind : CostKind) (relaxed : Lists) (state costs : List ℕ) (value : Estimate) → IsRelaxed parts kind relaxed → AreGoalCosts parts kind state costs → value ≡ total (value_at costs) relaxed.goals → (value ≡ Infinite) ↔ IsDead parts state
 dead_by_goals parts kind relaxed state costs value is each sums = (
-  λ infinite. (let found = found_in (λ fact. not (is_finite (costs_by parts.variables (value_at costs) fact))) parts.goal (sym goals ∙ not-false _ (sym finite ∙ ap is_finite infinite)) in
-      record {
-        place = found.place;
-        goal = found.element;
-        at = found.at;
-        unreached = λ n. false_from_ne_true _ (λ reached. both_ways _ (not-true _ found.passes) ((exactly found.place found.element found.at).1 (record { round = n; reached = reached })));
-      }),
+  λ infinite.
+      (let found = Any-from_list_any (λ fact. not (is_finite (costs_by parts.variables (value_at costs) fact))) parts.goal (sym goals ∙ not-false _ (sym finite ∙ ap is_finite infinite)) in
+      let at = slice_get_read parts.goal (length parts.goal) found.0 found.1 refl found.2 (sym found.3) in
+      record { place = found.0; goal = found.1; at = at; unreached = λ n. false_from_ne_true _ (λ reached. both_ways _ (not-true _ found.4) ((exactly found.0 found.1 at).1 (record { round = n; reached = reached }))) }),
   λ dead. (let any = any_at (λ fact. not (is_finite (costs_by parts.variables (value_at costs) fact))) parts.goal dead.place dead.goal dead.at
       (not_from_false _ (false_from_ne_true _ (λ finite. (let r = (exactly dead.place dead.goal dead.at).0 finite in both_ways _ (dead.unreached r.round) r.reached)))) in
       infinite_where_not value (finite ∙ not_from_true _ (goals ∙ any))),

@@ -1,7 +1,9 @@
 -- An evaluation under way: what facts cost so far, and which of them are settled.
-use Rattle.std.specs.Prelude.{◌≡◌, ℕ, ◌+◌, ◌-◌, ◌≤◌, List, [], ◌∷◌, ◌++◌, length, min, Bool, true, false, not, ◌&&◌, nat_lt, nat_le, Option, Some, slice_index, slice_index_or, slice_set, if◌then◌else◌}
+use Rattle.std.specs.Prelude.{◌≡◌, ℕ, ◌+◌, ◌-◌, ◌≤◌, List, [], ◌∷◌, ◌++◌, length, min, Bool, true, false, not, ◌&&◌, nat_lt, nat_le, Option, Some, slice_index, slice_index_or, slice_set, if◌then◌else◌, IsTrue}
 use Rattle.std.specs.List.{count_by}
+use Rattle.relaxed_task.specs.declared.relaxation.Lists.{Lists}
 use Rattle.h_add.specs.declared.network.Open.{Open}
+use Rattle.h_add.specs.Orders.{are_places}
 
 -- For each fact what it costs so far and whether that is settled; for each unary operator what it has open, and the price
 -- under which it waits, if it does; and the unary operators that settled a fact, in order.
@@ -60,3 +62,9 @@ there_at t fact = record t { costs = slice_set t.costs fact 0; settled = slice_s
 -- a unary operator settles the fact that it gives, which costs its price already
 abbrev pub given_at : Settlement → ℕ → ℕ → Settlement
 given_at t fact place = record t { settled = slice_set t.settled fact true; order = t.order ++ place ∷ [] }
+
+-- what an evaluator keeps between evaluations: a cost for each fact of the relaxation, and a count for each unary operator
+pub record IsReady (relaxed : Lists) (settling : Settlement) : Type 0 where
+  pub facts : relaxed.facts ≡ length settling.costs
+  pub unaries : length settling.opens ≡ length relaxed.unaries
+  pub places : IsTrue (are_places (length relaxed.unaries) settling.order)

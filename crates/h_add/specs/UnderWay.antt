@@ -79,13 +79,9 @@ pub record IsFresh (unaries : List Unary) (t : Settlement) : Type 0 where
   pub idle : IsIdle t.waiting
   pub order : t.order ≡ []
 
--- the facts that are left out are settled with nothing given, and no others
-abbrev pub IsOut : List ℕ → Settlement → Type 0
-IsOut without t = (fact : ℕ) → is_left_out t fact ≡ is_among without fact
-
 -- from the facts that were there at first, and those that the order gave
 pub record IsFrom (unaries : List Unary) (without had : List ℕ) (t : Settlement) : Type 0 where
-  pub out : IsOut without t
+  pub out : (fact : ℕ) → is_left_out t fact ≡ is_among without fact
   pub settled : (fact : ℕ) → is_settled t fact ≡ (is_among without fact || is_among (had ++ given_by (chosen unaries t.order)) fact)
   pub first : (fact : ℕ) → is_among had fact ≡ true → is_among without fact ≡ false → cost_at t fact ≡ 0
   pub in_order : IsInOrder had (chosen unaries t.order)

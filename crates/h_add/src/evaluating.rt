@@ -1,5 +1,5 @@
 // One evaluation.
-ghost use Rattle.std.specs.Prelude.{◌≡◌, ℕ, List, [], length, true, false, IsTrue};
+ghost use Rattle.std.specs.Prelude.{◌≡◌, ◌<◌, ℕ, List, [], length, true, false, IsTrue};
 ghost use Rattle.std.specs.List.{list_all};
 ghost use Rattle.cost_queue.specs.Queues.{IsIdle};
 ghost use Rattle.sas_task.specs.declared.contents.CostKind.{CostKind};
@@ -32,6 +32,7 @@ impl Settling {
     /// Settles facts until a fact is settled, and says whether it is; else none waits.
     fn settle_until(&mut self, network: &Network, fact: usize) -> bool
         requires facts { network.now.facts ≡ length self.old.costs }
+        requires fact { fact < network.now.facts }
         requires way { IsSettling network.now.unaries self.old }
         ensures later { IsLater network.now.unaries self.old self.new }
         ensures settled { result ≡ true → is_settled self.new fact ≡ true }

@@ -34,7 +34,7 @@ impl Settling {
         requires way { IsUnderWay network.now.unaries 0 [] self.old }
         ensures { HasMarked network.now.unaries (fact ∷ []) self.old self.new }
     {
-        if self.is_open(fact) {
+        if fact < self.costs().len() && !self.is_settled(fact) {
             self.be_there(fact);
             self.walk(network, network.needs(fact), 0);
         }

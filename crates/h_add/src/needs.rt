@@ -5,20 +5,11 @@ ghost use Rattle.std.specs.List.{list_all};
 ghost use Rattle.lama_num.specs.Rows.{row_at};
 ghost use Rattle.relaxed_task.specs.Numbers.{is_unary_below};
 ghost use Rattle.h_add.specs.Networks.{IsNeeds, are_below, needed};
-ghost use Rattle.h_add.specs.Listings.{Listed};
+ghost use Rattle.h_add.specs.Networks.{Listed};
 
 use lama_num::{NoMemory, Rows, Seq};
 use relaxed_task::Unary;
 use std::alloc::{AllocError, Global};
-
-/// Adds a place to the list of a fact.
-fn add_to(lists: &mut [Seq<u32>], fact: usize, place: u32) -> Result<(), AllocError>
-    requires { fact < length lists.old }
-    ensures { OnOk result (lists.new ≡
-        slice_set lists.old fact (row_at lists.old fact ++ place ∷ [])) }
-{
-    lists[fact].push(place)
-}
 
 /// Adds a place to the list of each of some facts.
 fn add_to_all(lists: &mut [Seq<u32>], facts: &[u32], place: u32) -> Result<(), AllocError>
@@ -26,10 +17,7 @@ fn add_to_all(lists: &mut [Seq<u32>], facts: &[u32], place: u32) -> Result<(), A
     ensures { OnOk result (Listed lists.old lists.new facts.now place) }
 {
     for fact in facts {
-        match add_to(lists, *fact as usize, place) {
-            Ok(()) => {}
-            Err(e) => return Err(e),
-        }
+        lists[*fact as usize].push(place)?;
     }
     Ok(())
 }
@@ -73,10 +61,7 @@ fn add_each(lists: &mut [Seq<u32>], unaries: &[Unary], always: u32) -> Result<()
     ensures long { length lists.new ≡ length lists.old }
 {
     for (i, unary) in unaries.iter().enumerate() {
-        match add_needs(lists, unary, always, i as u32) {
-            Ok(()) => {}
-            Err(e) => return Err(e),
-        }
+        add_needs(lists, unary, always, i as u32)?;
     }
     Ok(())
 }

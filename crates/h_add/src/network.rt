@@ -4,7 +4,8 @@ ghost use Rattle.std.specs.Prelude.{slice_get, Some};
 ghost use Rattle.std.specs.List.{list_all};
 ghost use Rattle.relaxed_task.specs.declared.unary.Unary.{Unary as TheUnary};
 ghost use Rattle.relaxed_task.specs.Numbers.{is_unary_below};
-ghost use Rattle.h_add.specs.Networks.{IsNeededBy, AreFree, are_within, open_at_start};
+ghost use Rattle.h_add.specs.Networks.{IsNeededBy, AreFree, open_at_start};
+ghost use Rattle.h_add.specs.Orders.{are_places};
 
 use crate::needs::needs_of;
 use lama_num::{LARGEST_ESTIMATE, NoMemory, Rows};
@@ -13,7 +14,7 @@ use std::alloc::{AllocError, Global};
 use std::marker::Model;
 
 /// The conditions of a unary operator that aren't reached yet, and what it costs with the others.
-#[derive(Clone, Copy, Debug)]
+#[derive(Clone, Copy)]
 pub struct Open {
     pub count: u32,
     pub sum: u32,
@@ -21,7 +22,7 @@ pub struct Open {
 
 /// A relaxation with its unary operators in tables, for loops over them. Contracts see the
 /// relaxation.
-#[derive(Debug, Drop)]
+#[derive(Drop)]
 pub struct Network {
     relaxed: Relaxed,
     /// What each gives.
@@ -37,7 +38,7 @@ impl Model for Network {
 
     ghost Value = { Lists };
 
-    ghost use Rattle.h_add.specs.Tables.{AreTables};
+    ghost use Rattle.h_add.specs.Networks.{AreTables};
 
     ghost view = { λ n. n.relaxed };
 
@@ -115,7 +116,7 @@ impl Network {
     pub fn needs(&self, fact: usize) -> &[u32]
         requires { fact < self.now.facts }
         ensures needs { IsNeededBy self.now.unaries self.now.facts fact result.now }
-        ensures within { IsTrue (are_within (length self.now.unaries) result.now) }
+        ensures within { IsTrue (are_places (length self.now.unaries) result.now) }
     {
         self.needs.row(fact)
     }
@@ -123,7 +124,7 @@ impl Network {
     /// The unary operators without conditions.
     pub fn free(&self) -> &[u32]
         ensures free { AreFree self.now.unaries result.now }
-        ensures within { IsTrue (are_within (length self.now.unaries) result.now) }
+        ensures within { IsTrue (are_places (length self.now.unaries) result.now) }
     {
         self.needs.row(self.relaxed.facts() as usize)
     }

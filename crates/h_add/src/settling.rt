@@ -5,7 +5,7 @@ ghost use Rattle.std.specs.Prelude.{MatchOption};
 ghost use Rattle.std.specs.Bool.{OnTrue, OnFalse};
 ghost use Rattle.cost_queue.specs.Queues.{price_of, IsPopped, IsIdle};
 ghost use Rattle.relaxed_task.specs.declared.unary.Unary.{Unary};
-ghost use Rattle.h_add.specs.Networks.{are_within};
+ghost use Rattle.h_add.specs.Orders.{are_places};
 ghost use Rattle.h_add.specs.Settlements.{is_settled, open_at, offered, counted, there_at};
 ghost use Rattle.h_add.specs.Settlements.{given_at};
 ghost use Rattle.h_add.specs.UnderWay.{IsUnderWay, IsSettling, IsLater, IsFresh, HasCounted, Owes};
@@ -87,35 +87,11 @@ impl Settling {
     }
 
     /// Whether a fact is settled.
-    pub fn is_settled(&self, fact: usize) -> bool
-        ensures { result ≡ is_settled self.now fact }
+    pub fn is_settled(&self, number: usize) -> bool
+        requires { number < length self.now.costs }
+        ensures { result ≡ is_settled self.now number }
     {
-        match self.settled.get(fact) {
-            Some(settled) => *settled,
-            None => false,
-        }
-    }
-
-    /// Whether a fact that is there is settled.
-    fn has_settled(&self, fact: usize) -> bool
-        requires { fact < length self.now.costs }
-        ensures { result ≡ is_settled self.now fact }
-    {
-        self.settled[fact]
-    }
-
-    /// Whether there is a fact that isn't settled.
-    pub fn is_open(&self, fact: usize) -> bool
-        ensures there { result ≡ true → fact < length self.now.costs }
-        ensures new { result ≡ true → is_settled self.now fact ≡ false }
-        ensures old { fact < length self.now.costs → result ≡ false →
-            is_settled self.now fact ≡ true }
-        ensures facts { length self.now.settled ≡ length self.now.costs }
-    {
-        match self.settled.get(fact) {
-            Some(settled) => !*settled,
-            None => false,
-        }
+        self.settled[number]
     }
 
     /// Begins again: no fact is reached, and none is settled.
@@ -149,7 +125,8 @@ impl Settling {
     /// Lets a fact be there at no cost.
     pub fn be_there(&mut self, fact: usize)
         requires fact { fact < length self.old.costs }
-        ensures { self.new ≡ there_at self.old fact }
+        ensures there { self.new ≡ there_at self.old fact }
+        ensures facts { length self.old.settled ≡ length self.old.costs }
     {
         self.costs[fact] = 0;
         self.settled[fact] = true;
@@ -214,7 +191,7 @@ impl Settling {
     #[inline(always)]
     pub fn walk(&mut self, network: &Network, places: &[u32], value: u32)
         requires facts { network.now.facts ≡ length self.old.costs }
-        requires places { IsTrue (are_within (length network.now.unaries) places.now) }
+        requires places { IsTrue (are_places (length network.now.unaries) places.now) }
         requires way { IsUnderWay network.now.unaries value places.now self.old }
         ensures way { IsUnderWay network.now.unaries value [] self.new }
         ensures counted { HasCounted self.old self.new }
@@ -260,7 +237,7 @@ impl Settling {
             return false;
         };
         let fact = network.gives(entry.number as usize) as usize;
-        if !self.has_settled(fact) {
+        if !self.is_settled(fact) {
             self.give(fact, entry.number);
             self.walk(network, network.needs(fact), entry.price);
         }

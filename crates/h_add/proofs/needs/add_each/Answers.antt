@@ -11,8 +11,8 @@ loop-i-init c = record { long = refl; needed = λ none fact i. ap (occurrences i
 
 pub loop-i-preserved : goal.loop-i-preserved
 loop-i-preserved c = record {
-  long = omega (arith, c.in-Ok.ensures.long);
-  needed = λ none. needed_more c.args.unaries.now c.args.always c.loop-i.i c.index-unaries-i.result _ _ (omega arith) c.index-unaries-i.is c.in-Ok.ensures (c.loop-i.invariant.needed none);
+  long = omega (arith, c.in_ok-add_needs.ensures.long);
+  needed = λ none. needed_more c.args.unaries.now c.args.always c.loop-i.i c.index-unaries-i.result _ _ (omega arith) c.index-unaries-i.is c.in_ok-add_needs.ensures (c.loop-i.invariant.needed none);
 }
 
 pub returns-clause-needs : goal.returns-clause-needs

@@ -1,5 +1,5 @@
 use Rattle.std.proofs.Common.{take}
-use Rattle.h_add.specs.Listings.{Listed}
+use Rattle.h_add.specs.Networks.{Listed}
 use Rattle.h_add.proofs.needs.add_to_all.Given as goal
 
 abbrev pub invariant-loop-fact : goal.invariant-loop-fact

@@ -5,6 +5,7 @@ use Rattle.std.proofs.lemmas.List.Folds.{list_all_more}
 use Rattle.relaxed_task.specs.Elements.{join}
 use Rattle.relaxed_task.specs.NumberLaws.{weaker}
 use Rattle.h_add.specs.Settlements.{is_settled}
+use Rattle.h_add.proofs.Growing.{below_at}
 use Rattle.h_add.proofs.Steps.{later_more, now_later}
 use Rattle.h_add.proofs.settling.Settling.settle_goals.Goals as goal
 
@@ -31,3 +32,6 @@ pub returns-clause-goals : goal.returns-clause-goals
 returns-clause-goals c =
     let goals : c.goals-goal-items.result.now ≡ c.args.network.now.goals = rw c.relaxed.ensures at c.goals-goal-items.ensures.goals in
     inl (subst (λ (xs : List ℕ). list_all (is_settled c.loop-goal.self) xs ≡ true) (take_all c.loop-goal.goal-index c.goals-goal-items.result.now (omega arith) ∙ goals) c.loop-goal.invariant.settled)
+
+pub settle_until-requires-clause-fact : goal.settle_until-requires-clause-fact
+settle_until-requires-clause-fact c = below_at _ c.goals-goal-items.result.now c.loop-goal.goal-index _ (rw c.relaxed.ensures at c.goals-goal-items.ensures.facts) (omega arith) refl
