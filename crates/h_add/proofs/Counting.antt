@@ -1,16 +1,132 @@
--- One unary operator counts a fact.
-use Rattle.std.proofs.Common.{◌≡◌, ◌≢◌, ◌∙◌, sym, ap, refl, ℕ, zero, suc, ◌+◌, ◌*◌, ◌<◌, ◌≤◌, ◌⊎◌, inl, inr, List, [], ◌∷◌, length, get_or, drop, min, Bool, true, false, nat_lt, not, ◌&&◌, arith, Option, Some, None, slice_get, slice_set, get_or-set_other, get_or-set_same, if◌then◌else◌}
-use Rattle.std.proofs.Math.Path.{fun_ext}
-use Rattle.std.proofs.lemmas.Bool.{ltb-true, ltb-false}
-use Rattle.std.proofs.lemmas.List.{length-set, drop_all, get_or_default}
+-- What is reached, sums of costs, and one unary operator that counts a fact.
+use Rattle.std.proofs.Common.{◌≡◌, ◌≢◌, ◌∙◌, sym, ap, refl, ℕ, ◌+◌, ◌*◌, ◌<◌, ◌≤◌, inl, inr, List, [], ◌∷◌, get_or, min, Bool, true, false, nat_eq, nat_le, not, ◌&&◌, arith, Some, slice_get, length, drop, zero, suc, ◌⊎◌, nat_lt, Option, None, slice_set, get_or-set_other, get_or-set_same, if◌then◌else◌}
+use Rattle.std.specs.List.{list_all}
+use Rattle.std.proofs.lemmas.Bool.{eq-eqb, le-leb, lt-leb, leb-true, ltb-true, ltb-false}
 use Rattle.cost_queue.specs.Occurrences.{one_if, occurrences}
-use Rattle.cost_queue.specs.Queues.{price_of}
+use Rattle.lama_num.specs.Lists.{both}
+use Rattle.lama_num.specs.declared.estimates.Estimate.{Estimate}
+use Rattle.lama_num.specs.declared.estimates.Estimate.TheVariants.{Finite, Infinite}
 use Rattle.relaxed_task.specs.Elements.{places, drop_within}
+use Rattle.relaxed_task.specs.Relaxing.{sum_of as total}
+use Rattle.h_add.specs.ByNumber.{price}
 use Rattle.relaxed_task.specs.declared.unary.Unary.{Unary}
+use Rattle.h_add.specs.UnderWay.{Settlement, cost_at, is_settled, is_reached, is_left_out, open_at, less_open, counted, offered, one_open, share, summed, IsUnderWay, IsWaiting, IsWanted, HasCounted}
+use Rattle.h_add.specs.Values.{estimate_of, value_at}
+use Rattle.std.proofs.lemmas.List.{get_or_default, drop_all, length-set}
+use Rattle.lama_num.specs.Estimates.{estimate_sum}
+use Rattle.relaxed_task.specs.EstimateLaws.{zero_plus, plus_zero, plus_assoc}
+use Rattle.relaxed_task.specs.CostLaws.{sum_capped as total_capped}
+use Rattle.std.proofs.Math.Path.{fun_ext}
+use Rattle.cost_queue.specs.Queues.{price_of}
 use Rattle.h_add.specs.declared.network.Open.{Open}
-use Rattle.h_add.specs.Settlements.{Settlement, cost_at, is_settled, is_reached, is_left_out, open_at, less_open, counted, offered}
-use Rattle.h_add.specs.UnderWay.{one_open, share, summed, IsWaiting, IsWanted, IsUnderWay, HasCounted}
-use Rattle.h_add.proofs.Reaching.{reached_small, reached_same, reached_if, itself}
+
+-- tests that are decided
+pub itself : (n : ℕ) → nat_eq n n ≡ true
+itself n = eq-eqb n n refl
+
+pub finite_is : (cost : ℕ) → cost ≤ 1000000000 → estimate_of cost ≡ Finite cost
+finite_is cost le = rw (le-leb cost 1000000000 le) refl
+
+pub infinite_is : (cost : ℕ) → 1000000000 < cost → estimate_of cost ≡ Infinite
+infinite_is cost lt = rw (lt-leb cost 1000000000 lt) refl
+
+-- what is reached is settled, and costs little
+pub reached_small : (t : Settlement) (fact : ℕ) → is_reached t fact ≡ true → (is_settled t fact ≡ true) × (cost_at t fact ≤ 1000000000)
+reached_small t fact is = let parts = both (is_settled t fact) (nat_le (cost_at t fact) 1000000000) is in (parts.0, leb-true (cost_at t fact) 1000000000 parts.1)
+
+-- what is settled, and not left out, is reached
+pub reached_if : (t : Settlement) (fact : ℕ) → is_settled t fact ≡ true → is_left_out t fact ≡ false → is_reached t fact ≡ true
+reached_if t fact is kept = by_test (nat_le (cost_at t fact) 1000000000) (rw is at kept)
+  where
+    by_test : (b : Bool) → (true && not b) ≡ false → (is_settled t fact && b) ≡ true
+    by_test true kept = rw is refl
+    by_test false kept = let k : true ≡ false = kept in cc
+
+-- what isn't settled is neither reached nor left out
+pub unsettled_not : (t : Settlement) (fact : ℕ) → is_settled t fact ≡ false → (is_reached t fact ≡ false) × (is_left_out t fact ≡ false)
+unsettled_not t fact is = (rw is refl, rw is refl)
+
+-- where settled facts cost the same, the same is reached
+pub reached_same : (t u : Settlement) → u.settled ≡ t.settled → ((fact : ℕ) → is_settled t fact ≡ true → cost_at u fact ≡ cost_at t fact) →
+    (fact : ℕ) → (is_reached u fact ≡ is_reached t fact) × (is_left_out u fact ≡ is_left_out t fact) × (share u fact ≡ share t fact)
+reached_same t u settled kept fact = by_test (is_settled t fact) refl
+  where
+    same : is_settled u fact ≡ is_settled t fact
+    same = ap (λ (fs : List Bool). get_or fs fact false) settled
+
+    by_test : (b : Bool) → is_settled t fact ≡ b → (is_reached u fact ≡ is_reached t fact) × (is_left_out u fact ≡ is_left_out t fact) × (share u fact ≡ share t fact)
+    by_test true is = let cost = kept fact is in (rw (same, cost) refl, rw (same, cost) refl, rw (same, cost) refl)
+    by_test false is = let now : is_settled u fact ≡ false = same ∙ is in (rw (now, is) refl, rw (now, is) refl, rw (now, is) refl)
+
+-- a sum where one summand changed
+pub sum_changed : (f g : ℕ → ℕ) (fact x y : ℕ) (conds : List ℕ) → f fact ≡ x → g fact ≡ y → ((c : ℕ) → c ≢ fact → g c ≡ f c) → summed g conds + occurrences fact conds * x ≡ summed f conds + occurrences fact conds * y
+sum_changed f g fact x y [] was is others = omega arith
+sum_changed f g fact x y (c ∷ conds) was is others =
+    let rest = sum_changed f g fact x y conds was is others in
+    elim (places fact c) [
+      | inl here ↦ let before = ap f (sym here.0) ∙ was in let now = ap g (sym here.0) ∙ is in rw here.1 (omega (arith, rest, before, now))
+      | inr there ↦ let same = others c (λ e. there.0 (sym e)) in rw there.1 (omega (arith, rest, same))
+    ]
+
+-- all conditions are reached where none is open
+pub all_reached : (t : Settlement) (conds : List ℕ) → summed (one_open t) conds ≡ 0 → list_all (is_reached t) conds ≡ true
+all_reached t [] none = refl
+all_reached t (c ∷ conds) none = by_test (is_reached t c) none (λ rest. all_reached t conds rest)
+  where
+    by_test : (b : Bool) → one_if (not b) + summed (one_open t) conds ≡ 0 → (summed (one_open t) conds ≡ 0 → list_all (is_reached t) conds ≡ true) → (b && list_all (is_reached t) conds) ≡ true
+    by_test true none rest = rest (omega arith)
+    by_test false none rest = absurd (omega arith)
+
+-- what is paid for conditions, all reached, is their sum
+pub total_paid : (v : ℕ → Estimate) (t : Settlement) (conds : List ℕ) → ((fact : ℕ) → is_reached t fact ≡ true → v fact ≡ Finite (cost_at t fact)) → summed (one_open t) conds ≡ 0 → total v conds ≡ Finite (min (summed (share t) conds) 1000000000)
+total_paid v t [] each none = refl
+total_paid v t (c ∷ conds) each none =
+    let parts = both (is_reached t c) (list_all (is_reached t) conds) (all_reached t (c ∷ conds) none) in
+    let paid : share t c ≡ cost_at t c = rw parts.0 refl in
+    rw (each c parts.0, total_paid v t conds each (omega arith)) (ap (λ (n : ℕ). Finite n) (omega (arith, paid)))
+
+-- what is asked for by one with all conditions reached
+pub price_sum : (unaries : List Unary) (level place : ℕ) (t : Settlement) (v : ℕ → Estimate) (u : Unary) → slice_get unaries place ≡ Some u → ((fact : ℕ) → is_reached t fact ≡ true → v fact ≡ Finite (cost_at t fact)) → (open_at t place).count ≡ 0 → IsUnderWay unaries level [] t →
+    price v u ≡ Finite (open_at t place).sum
+price_sum unaries level place t v u at each none way =
+    let was = way.each place u at in
+    let count = was.count in
+    let sum = was.sum in
+    rw (total_paid v t u.conds each (omega arith)) (ap (λ (n : ℕ). Finite n) (let small = was.small in omega arith))
+
+-- a sum so far, and what is left
+pub record IsSumSoFar (value : ℕ → Estimate) (facts : List ℕ) (k sum : ℕ) : Type 0 where
+  pub capped : sum ≤ 1000000000
+  pub rest : estimate_sum (Finite sum) (total value (drop k facts)) ≡ total value facts
+
+pub sum_starts : (value : ℕ → Estimate) (facts : List ℕ) → IsSumSoFar value facts 0 0
+sum_starts value facts = record { capped = omega arith; rest = zero_plus (total value facts) (total_capped value facts) }
+
+-- what a fact that is there costs
+read_value : (costs : List ℕ) (fact cost : ℕ) → fact < length costs → cost ≡ get_or costs fact 0 → value_at costs fact ≡ estimate_of cost
+read_value costs fact cost lt at = ap estimate_of (get_or_default costs fact 4294967295 0 lt ∙ sym at)
+
+pub sum_grows : (costs facts : List ℕ) (k fact cost sum : ℕ) → k < length facts → fact ≡ get_or facts k 0 → fact < length costs → cost ≡ get_or costs fact 0 → cost ≤ 1000000000 →
+    IsSumSoFar (value_at costs) facts k sum → IsSumSoFar (value_at costs) facts (k + 1) (min (sum + cost) 1000000000)
+sum_grows costs facts k fact cost sum lt at within read small so =
+    let here : value_at costs fact ≡ Finite cost = read_value costs fact cost within read ∙ finite_is cost small in
+    let rest : estimate_sum (Finite sum) (estimate_sum (value_at costs fact) (total (value_at costs) (drop (k + 1) facts))) ≡ total (value_at costs) facts = rw (drop_within facts k fact lt at) at so.rest in
+    record {
+      capped = omega arith;
+      rest = plus_assoc (Finite sum) (Finite cost) (total (value_at costs) (drop (k + 1) facts)) ∙ (ap (λ (e : Estimate). estimate_sum (Finite sum) (estimate_sum e (total (value_at costs) (drop (k + 1) facts)))) (sym here) ∙ rest);
+    }
+
+pub sum_infinite : (costs facts : List ℕ) (k fact cost sum : ℕ) → k < length facts → fact ≡ get_or facts k 0 → fact < length costs → cost ≡ get_or costs fact 0 → 1000000000 < cost →
+    IsSumSoFar (value_at costs) facts k sum → estimate_of 4294967295 ≡ total (value_at costs) facts
+sum_infinite costs facts k fact cost sum lt at within read large so =
+    let here : value_at costs fact ≡ Infinite = read_value costs fact cost within read ∙ infinite_is cost large in
+    let rest : estimate_sum (Finite sum) (estimate_sum (value_at costs fact) (total (value_at costs) (drop (k + 1) facts))) ≡ total (value_at costs) facts = rw (drop_within facts k fact lt at) at so.rest in
+    ap (λ (e : Estimate). estimate_sum (Finite sum) (estimate_sum e (total (value_at costs) (drop (k + 1) facts)))) (sym here) ∙ rest
+
+pub sum_ends : (costs facts : List ℕ) (k sum : ℕ) → length facts ≤ k → IsSumSoFar (value_at costs) facts k sum → estimate_of sum ≡ total (value_at costs) facts
+sum_ends costs facts k sum le so =
+    let none : drop k facts ≡ [] = drop_all k facts le in
+    finite_is sum so.capped ∙ (sym (plus_zero (Finite sum) so.capped) ∙ rw none at so.rest)
 
 -- there is a unary operator at a place within
 pub record There (unaries : List Unary) (place : ℕ) : Type 0 where
@@ -221,4 +337,3 @@ counted_more t u v a b = record {
   waiting_long = b.waiting_long ∙ a.waiting_long;
   kept = λ fact is. b.kept fact (ap (λ (fs : List Bool). get_or fs fact false) a.settled ∙ is) ∙ a.kept fact is;
 }
-

@@ -12,7 +12,7 @@ use Rattle.relaxed_task.specs.declared.unary.Unary.{Unary}
 use Rattle.relaxed_task.specs.Numbers.{is_below, is_unary_below}
 use Rattle.relaxed_task.specs.Elements.{places, join}
 use Rattle.relaxed_task.specs.NumberLaws.{weaker}
-use Rattle.h_add.proofs.Reaching.{itself}
+use Rattle.h_add.proofs.Counting.{itself}
 use Rattle.h_add.specs.Orders.{are_places}
 use Rattle.h_add.specs.Networks.{are_below, needed, IsNeeds, IsNeededBy, AreFree, Listed}
 

@@ -2,6 +2,5 @@ pub mod ByNumber
 pub mod Laws
 pub mod Networks
 pub mod Orders
-pub mod Settlements
 pub mod UnderWay
 pub mod Values

@@ -42,7 +42,7 @@ pub struct Add {
 }
 
 impl Model for Add {
-    ghost use Rattle.h_add.specs.Settlements.{IsReady};
+    ghost use Rattle.h_add.specs.UnderWay.{IsReady};
     ghost use Rattle.h_add.specs.Values.{Evaluator};
 
     ghost Value = { Evaluator };

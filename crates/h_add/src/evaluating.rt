@@ -10,7 +10,7 @@ ghost use Rattle.relaxed_task.specs.Numbers.{numbers_of, is_among};
 ghost use Rattle.h_add.specs.ByNumber.{start_facts, IsAdd};
 ghost use Rattle.relaxed_task.specs.Relaxations.{IsRelaxed};
 ghost use Rattle.h_add.specs.Orders.{IsOrder, are_places};
-ghost use Rattle.h_add.specs.Settlements.{is_settled};
+ghost use Rattle.h_add.specs.UnderWay.{is_settled};
 ghost use Rattle.h_add.specs.UnderWay.{IsSettling, IsLater, AreSettled};
 ghost use Rattle.h_add.specs.Values.{value_at, IsEvaluatedByNumber};
 
@@ -20,6 +20,7 @@ use sas_task::Fact;
 
 impl Settling {
     /// Settles facts until none waits.
+    #[tactic(auto, using(crate::proofs::Steps::now_later))]
     fn settle_all(&mut self, network: &Network)
         requires facts { network.now.facts ≡ length self.old.costs }
         requires way { IsSettling network.now.unaries self.old }
@@ -30,6 +31,7 @@ impl Settling {
     }
 
     /// Settles facts until a fact is settled, and says whether it is; else none waits.
+    #[tactic(auto, using(crate::proofs::Steps::now_later))]
     fn settle_until(&mut self, network: &Network, fact: usize) -> bool
         requires facts { network.now.facts ≡ length self.old.costs }
         requires fact { fact < network.now.facts }

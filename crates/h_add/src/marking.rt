@@ -4,7 +4,7 @@ ghost use Rattle.std.specs.Prelude.{map};
 ghost use Rattle.relaxed_task.specs.Numbers.{is_among, number_by, numbers_by};
 ghost use Rattle.relaxed_task.specs.declared.unary.Unary.{Unary};
 ghost use Rattle.h_add.specs.Networks.{are_below};
-ghost use Rattle.h_add.specs.Settlements.{is_settled};
+ghost use Rattle.h_add.specs.UnderWay.{is_settled};
 ghost use Rattle.h_add.specs.UnderWay.{IsUnderWay, IsFresh, IsFrom, HasMarked};
 
 use crate::network::Network;
@@ -41,6 +41,7 @@ impl Settling {
     }
 
     /// Lets some facts be there at first.
+    #[tactic(auto, using(crate::proofs::Steps::none_marked, crate::proofs::Steps::taken_marked, crate::proofs::Steps::all_marked))]
     fn mark_all(&mut self, network: &Network, facts: &[u32])
         requires facts { network.now.facts ≡ length self.old.costs }
         requires way { IsUnderWay network.now.unaries 0 [] self.old }

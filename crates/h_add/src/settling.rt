@@ -6,8 +6,8 @@ ghost use Rattle.std.specs.Bool.{OnTrue, OnFalse};
 ghost use Rattle.cost_queue.specs.Queues.{price_of, IsPopped, IsIdle};
 ghost use Rattle.relaxed_task.specs.declared.unary.Unary.{Unary};
 ghost use Rattle.h_add.specs.Orders.{are_places};
-ghost use Rattle.h_add.specs.Settlements.{is_settled, open_at, offered, counted, there_at};
-ghost use Rattle.h_add.specs.Settlements.{given_at};
+ghost use Rattle.h_add.specs.UnderWay.{is_settled, open_at, offered, counted, there_at};
+ghost use Rattle.h_add.specs.UnderWay.{given_at};
 ghost use Rattle.h_add.specs.UnderWay.{IsUnderWay, IsSettling, IsLater, IsFresh, HasCounted, Owes};
 ghost use Rattle.h_add.specs.UnderWay.{left_to_do};
 
@@ -34,7 +34,7 @@ pub struct Settling {
 
 impl Model for Settling {
     ghost use Rattle.std.specs.Prelude.{vec_capacity};
-    ghost use Rattle.h_add.specs.Settlements.{Settlement, AreLevel};
+    ghost use Rattle.h_add.specs.UnderWay.{Settlement, AreLevel};
 
     ghost Value = { Settlement };
 
@@ -52,6 +52,7 @@ impl Model for Settling {
 
 impl Settling {
     /// Room for so many facts and unary operators.
+    #[tactic(auto, using(crate::proofs::Steps::few_unsettled))]
     pub fn new(alloc: Global, facts: usize, unaries: usize) -> Result<Settling, AllocError>
         ensures facts { IfOk result (λ s. length s.costs ≡ facts) }
         ensures unaries { IfOk result (λ s. length s.opens ≡ unaries) }
@@ -95,6 +96,7 @@ impl Settling {
     }
 
     /// Begins again: no fact is reached, and none is settled.
+    #[tactic(auto, using(crate::proofs::Steps::few_unsettled, crate::proofs::Growing::written_back))]
     pub fn clear(&mut self, network: &Network)
         requires { length self.old.opens ≡ length network.now.unaries }
         ensures fresh { IsFresh network.now.unaries self.new }
@@ -109,6 +111,7 @@ impl Settling {
     }
 
     /// Leaves a fact out, where it is there.
+    #[tactic(auto, using(crate::proofs::Steps::fewer_or_same))]
     pub fn leave_out(&mut self, fact: usize)
         ensures fresh { (unaries : List Unary) → IsFresh unaries self.old →
             IsFresh unaries self.new }
@@ -123,6 +126,7 @@ impl Settling {
     }
 
     /// Lets a fact be there at no cost.
+    #[tactic(auto, using(crate::proofs::Steps::fewer_or_same))]
     pub fn be_there(&mut self, fact: usize)
         requires fact { fact < length self.old.costs }
         ensures there { self.new ≡ there_at self.old fact }
@@ -212,6 +216,7 @@ impl Settling {
     }
 
     /// Lets a unary operator settle the fact that it gives, which costs its price already.
+    #[tactic(auto, using(crate::proofs::Steps::fewer_unsettled))]
     fn give(&mut self, fact: usize, place: u32)
         requires fact { fact < length self.old.costs }
         requires new { is_settled self.old fact ≡ false }

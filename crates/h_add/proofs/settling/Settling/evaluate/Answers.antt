@@ -2,7 +2,7 @@ use Rattle.std.proofs.Common.{◌≡◌, ◌∙◌, ap, ℕ, List, [], length, m
 use Rattle.sas_task.specs.declared.contents.Fact.{Fact}
 use Rattle.relaxed_task.specs.Numbers.{numbers_of, number_by, is_among}
 use Rattle.h_add.specs.Networks.{are_below}
-use Rattle.h_add.proofs.Exact.{places_of, state_numbers_below, excluded_is, excluded_below, none_excluded, all_evaluated, all_ordered}
+use Rattle.h_add.proofs.Steps.{places_of, state_numbers_below, excluded_is, excluded_below, none_excluded, all_evaluated, all_ordered}
 use Rattle.h_add.proofs.settling.Settling.evaluate.Goals as goal
 
 pub returns-clause-evaluated : goal.returns-clause-evaluated

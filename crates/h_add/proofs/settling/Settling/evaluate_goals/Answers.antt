@@ -1,5 +1,5 @@
 use Rattle.std.proofs.Common.{[]}
-use Rattle.h_add.proofs.Exact.{places_of, state_numbers_below, goals_evaluated}
+use Rattle.h_add.proofs.Steps.{places_of, state_numbers_below, goals_evaluated}
 use Rattle.h_add.proofs.settling.Settling.evaluate_goals.Goals as goal
 
 pub returns-clause-goals : goal.returns-clause-goals

@@ -4,7 +4,7 @@ use Rattle.std.proofs.lemmas.List.{take_all}
 use Rattle.std.proofs.lemmas.List.Folds.{list_all_more}
 use Rattle.relaxed_task.specs.Elements.{join}
 use Rattle.relaxed_task.specs.NumberLaws.{weaker}
-use Rattle.h_add.specs.Settlements.{is_settled}
+use Rattle.h_add.specs.UnderWay.{is_settled}
 use Rattle.h_add.proofs.Growing.{below_at}
 use Rattle.h_add.proofs.Steps.{later_more, now_later}
 use Rattle.h_add.proofs.settling.Settling.settle_goals.Goals as goal
