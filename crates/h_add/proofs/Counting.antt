@@ -174,67 +174,70 @@ module _ (unaries : List Unary) (level place : ℕ) (t : Settlement) (lt : place
   open_here = get_or-set_same t.opens place (less_open (open_at t place) level) (record { count = 0; sum = 0 }) (let long = way.opens_long in omega arith)
 
   steps_way : (fact : ℕ) (now : Settlement) → ((u : Unary) → slice_get unaries place ≡ Some u → fact ≡ u.gives) → Steps unaries level place fact t now → IsMet unaries level owed t now
-  steps_way fact now gives s = (record {
-    level_small = way.level_small;
-    opens_long = ap length s.opens ∙ (length-set t.opens place (less_open (open_at t place) level) ∙ way.opens_long);
-    each = λ other u at.
-        (let unreached_is = ap (λ (f : ℕ → ℕ). summed f u.conds) (fun_ext (λ f. ap (λ (b : Bool). one_if (not b)) (same f).0)) in
-        let paid_is = ap (λ (f : ℕ → ℕ). summed f u.conds) (fun_ext (λ f. (same f).2)) in
-        let was = way.each other u at in
-        let small_was = was.small in
-        elim (places other place) [
-          | inl here ↦ rw here.0
-              (let own = way.each place u (rw here.0 at at) in
-              let count_was : (open_at t place).count ≡ summed (one_open t) u.conds + (1 + occurrences place owed) = rw (itself place) at own.count in
-              let sum_was : min ((open_at t place).sum + (1 + occurrences place owed) * level) 1000000000 ≡ min (u.cost + summed (share t) u.conds) 1000000000 = rw (itself place) at own.sum in
-              let is = opens_is place ∙ open_here in
-              let count = ap (λ (o : Open). o.count) is in
-              let sum = ap (λ (o : Open). o.sum) is in
-              record {
-                count = omega (arith, count, count_was, unreached_is);
-                sum = omega (arith, sum, sum_was, paid_is);
-                small = omega (arith, sum);
-                offered = λ none kept. (rw (gives u (rw here.0 at at)) at s.own) none (sym (same u.gives).1 ∙ kept);
-              })
-          | inr there ↦
-              let count_was = rw there.1 at was.count in
-              let sum_was = rw there.1 at was.sum in
-              let is = open_there other there.0 in
-              let count = ap (λ (o : Open). o.count) is in
-              let sum = ap (λ (o : Open). o.sum) is in
-              record {
-                count = omega (arith, count, count_was, unreached_is);
-                sum = omega (arith, sum, sum_was, paid_is);
-                small = omega (arith, sum, small_was);
-                offered = λ none kept. (let le = was.offered (sym count ∙ none) (sym (same u.gives).1 ∙ kept) in let less = s.less u.gives in omega (arith, sum, le, less));
-              }
-        ]);
-    waits = λ other cost at. elim (s.waits other cost at) [
-      | inl was ↦
-          let before = way.waits other cost was in
-          let is = closed_there other before.none_open in
-          record { none_open = ap (λ (o : Open). o.count) is ∙ before.none_open; price_is = before.price_is ∙ ap (λ (o : Open). o.sum) (sym is); above = before.above }
-      | inr is ↦ rw is.0 is.1
-    ];
-    wanted = λ f new small. (let fresh = ap (λ (fs : List Bool). get_or fs f false) (sym s.counted.settled) ∙ new in
-        elim (s.wanted f fresh) [
-          | inl is ↦ is
-          | inr as_was ↦
-              let was = way.wanted f fresh (let cost = as_was.0 in omega arith) in
-              record { place = was.place; unary = was.unary; at = was.at; gives = was.gives; waits = as_was.1 was.place (cost_at now f) (was.waits ∙ ap (λ (n : ℕ). Some n) (sym as_was.0)) }
-        ]);
-    low = λ f is. (let was = sym (same f).0 ∙ is in let kept = s.counted.kept f (reached_small t f was).0 in let le = way.low f was in omega arith);
-    settled_by = λ other among.
-        (let was = way.settled_by other (rw s.counted.order at among) in
-        let is = closed_there other was.none_open in
-        record {
-          unary = was.unary;
-          at = was.at;
-          none_open = ap (λ (o : Open). o.count) is ∙ was.none_open;
-          reached = (same was.unary.gives).0 ∙ was.reached;
-          pays = s.counted.kept was.unary.gives (reached_small t was.unary.gives was.reached).0 ∙ (was.pays ∙ ap (λ (o : Open). o.sum) (sym is));
-        });
-  }, s.counted)
+  steps_way fact now gives s = (
+    record {
+      level_small = way.level_small;
+      opens_long = ap length s.opens ∙ (length-set t.opens place (less_open (open_at t place) level) ∙ way.opens_long);
+      each = λ other u at.
+          (let unreached_is = ap (λ (f : ℕ → ℕ). summed f u.conds) (fun_ext (λ f. ap (λ (b : Bool). one_if (not b)) (same f).0)) in
+          let paid_is = ap (λ (f : ℕ → ℕ). summed f u.conds) (fun_ext (λ f. (same f).2)) in
+          let was = way.each other u at in
+          let small_was = was.small in
+          elim (places other place) [
+            | inl here ↦ rw here.0
+                (let own = way.each place u (rw here.0 at at) in
+                let count_was : (open_at t place).count ≡ summed (one_open t) u.conds + (1 + occurrences place owed) = rw (itself place) at own.count in
+                let sum_was : min ((open_at t place).sum + (1 + occurrences place owed) * level) 1000000000 ≡ min (u.cost + summed (share t) u.conds) 1000000000 = rw (itself place) at own.sum in
+                let is = opens_is place ∙ open_here in
+                let count = ap (λ (o : Open). o.count) is in
+                let sum = ap (λ (o : Open). o.sum) is in
+                record {
+                  count = omega (arith, count, count_was, unreached_is);
+                  sum = omega (arith, sum, sum_was, paid_is);
+                  small = omega (arith, sum);
+                  offered = λ none kept. (rw (gives u (rw here.0 at at)) at s.own) none (sym (same u.gives).1 ∙ kept);
+                })
+            | inr there ↦
+                let count_was = rw there.1 at was.count in
+                let sum_was = rw there.1 at was.sum in
+                let is = open_there other there.0 in
+                let count = ap (λ (o : Open). o.count) is in
+                let sum = ap (λ (o : Open). o.sum) is in
+                record {
+                  count = omega (arith, count, count_was, unreached_is);
+                  sum = omega (arith, sum, sum_was, paid_is);
+                  small = omega (arith, sum, small_was);
+                  offered = λ none kept. (let le = was.offered (sym count ∙ none) (sym (same u.gives).1 ∙ kept) in let less = s.less u.gives in omega (arith, sum, le, less));
+                }
+          ]);
+      waits = λ other cost at. elim (s.waits other cost at) [
+        | inl was ↦
+            let before = way.waits other cost was in
+            let is = closed_there other before.none_open in
+            record { none_open = ap (λ (o : Open). o.count) is ∙ before.none_open; price_is = before.price_is ∙ ap (λ (o : Open). o.sum) (sym is); above = before.above }
+        | inr is ↦ rw is.0 is.1
+      ];
+      wanted = λ f new small. (let fresh = ap (λ (fs : List Bool). get_or fs f false) (sym s.counted.settled) ∙ new in
+          elim (s.wanted f fresh) [
+            | inl is ↦ is
+            | inr as_was ↦
+                let was = way.wanted f fresh (let cost = as_was.0 in omega arith) in
+                record { place = was.place; unary = was.unary; at = was.at; gives = was.gives; waits = as_was.1 was.place (cost_at now f) (was.waits ∙ ap (λ (n : ℕ). Some n) (sym as_was.0)) }
+          ]);
+      low = λ f is. (let was = sym (same f).0 ∙ is in let kept = s.counted.kept f (reached_small t f was).0 in let le = way.low f was in omega arith);
+      settled_by = λ other among.
+          (let was = way.settled_by other (rw s.counted.order at among) in
+          let is = closed_there other was.none_open in
+          record {
+            unary = was.unary;
+            at = was.at;
+            none_open = ap (λ (o : Open). o.count) is ∙ was.none_open;
+            reached = (same was.unary.gives).0 ∙ was.reached;
+            pays = s.counted.kept was.unary.gives (reached_small t was.unary.gives was.reached).0 ∙ (was.pays ∙ ap (λ (o : Open). o.sum) (sym is));
+          });
+    },
+    s.counted,
+  )
     where
       same : (f : ℕ) → (is_reached now f ≡ is_reached t f) × (is_left_out now f ≡ is_left_out t f) × (share now f ≡ share t f)
       same = reached_same t now s.counted.settled s.counted.kept

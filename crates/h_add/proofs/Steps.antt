@@ -1,5 +1,5 @@
 -- One fact after the other is settled, or passed over, and what is reached costs what it does by the rounds.
-use Rattle.std.proofs.Common.{◌≡◌, ◌≢◌, ◌∙◌, sym, ap, subst, refl, ℕ, ◌+◌, ◌*◌, ◌<◌, ◌≤◌, ◌⊎◌, inl, inr, List, [], ◌∷◌, ◌++◌, length, get_or, min, Bool, true, false, nat_eq, nat_le, not, ◌&&◌, ◌||◌, if◌then◌else◌, arith, Option, Some, None, slice_get, slice_set, get_or-set_other, get_or-set_same, append_assoc, max, take, zero, suc, nat_lt, map}
+use Rattle.std.proofs.Common.{◌≡◌, ◌≢◌, ◌∙◌, sym, ap, subst, refl, ℕ, ◌+◌, ◌*◌, ◌<◌, ◌≤◌, ◌⊎◌, inl, inr, List, [], ◌∷◌, ◌++◌, length, get_or, min, Bool, true, false, nat_eq, nat_le, not, ◌&&◌, ◌||◌, if◌then◌else◌, arith, Option, Some, None, slice_get, slice_set, get_or-set_other, get_or-set_same, append_assoc, max, take, zero, suc, nat_lt}
 use Rattle.std.proofs.Math.Bool.{or_assoc, or-false, or-true, and-true}
 use Rattle.std.proofs.lemmas.Bool.{and_right, or_parts, lt-ltb, cases_lt, eqb-true, le-leb, or_cases, lt-leb, ltb-true, false_from_ne_true, leb-true, leb-false}
 use Rattle.std.proofs.lemmas.List.{length-set, set_past, map-append, append-nil, set-get_or, take_more, take_all, get_or-map, length-map}
@@ -10,9 +10,9 @@ use Rattle.cost_queue.specs.Queues.{price_of, IsTaken, IsIdle}
 use Rattle.cost_queue.specs.Laws.{taken_fewer, waiting_within, there}
 use Rattle.cost_queue.specs.declared.entry.Entry.{Entry}
 use Rattle.relaxed_task.specs.Elements.{places, denied}
-use Rattle.relaxed_task.specs.NumberLaws.{weaker, numbers_by-is, state_below, numbers_same, numbers_below, start_numbers}
+use Rattle.relaxed_task.specs.NumberLaws.{weaker}
 use Rattle.relaxed_task.specs.PlanLaws.{all_has}
-use Rattle.relaxed_task.specs.Numbers.{is_among, is_below, over_numbers, numbers_by, numbers_of, number_by}
+use Rattle.relaxed_task.specs.Numbers.{is_among, is_below, over_numbers}
 use Rattle.relaxed_task.specs.declared.unary.Unary.{Unary}
 use Rattle.h_add.specs.declared.network.Open.{Open}
 use Rattle.h_add.specs.UnderWay.{Settlement, cost_at, is_settled, is_reached, is_left_out, open_at, unsettled, given_at, there_at, one_open, share, summed, IsCounted, IsWaiting, IsUnderWay, left_to_do, IsFrom, HasCounted, IsSettling, IsLater, IsFresh, HasMarked, IsWanted, HasSettled, AreSettled}
@@ -24,7 +24,7 @@ use Rattle.lama_num.specs.Lists.{both}
 use Rattle.h_add.specs.ByNumber.{IsInOrder, price, is_started, add_round, IsClosed, AreBest, IsBest, start_facts, IsAdd}
 use Rattle.h_add.specs.Orders.{chosen, given_by, are_places, IsOrder}
 use Rattle.h_add.specs.Laws.{chosen_grows}
-use Rattle.h_add.specs.Networks.{needed, IsNeededBy, AreFree, open_at_start, are_below}
+use Rattle.h_add.specs.Networks.{needed, IsNeededBy, AreFree, open_at_start}
 use Rattle.h_add.proofs.Growing.{needed_at}
 use Rattle.lama_num.specs.declared.estimates.Estimate.{Estimate}
 use Rattle.lama_num.specs.declared.estimates.Estimate.TheVariants.{Finite, Infinite}
@@ -35,10 +35,7 @@ use Rattle.relaxed_task.specs.Relaxing.{least_price, sum_of as total}
 use Rattle.lama_num.specs.Estimates.{estimate_sum}
 use Rattle.h_add.specs.Values.{estimate_of, value_at, IsEvaluatedByNumber}
 use Rattle.sas_task.specs.declared.contents.CostKind.{CostKind}
-use Rattle.sas_task.specs.declared.contents.Fact.{Fact}
 use Rattle.sas_task.specs.declared.contents.Parts.{Parts}
-use Rattle.sas_task.specs.States.{IsState}
-use Rattle.sas_task.specs.WellFormed.{is_fact}
 use Rattle.relaxed_task.specs.declared.relaxation.Lists.{Lists}
 use Rattle.relaxed_task.specs.Relaxations.{IsRelaxed}
 
@@ -771,42 +768,13 @@ order_of unaries start t idle s from =
 pub places_of : (unaries : List Unary) (t : Settlement) → IsSettling unaries t → are_places (length unaries) t.order ≡ true
 places_of unaries t s = (all_best unaries s.level t t.order s.way.settled_by s.way).0
 
--- the facts that are there at first have numbers of the relaxation
-pub state_numbers_below : (parts : Parts) (kind : CostKind) (relaxed : Lists) (state : List ℕ) → IsRelaxed parts kind relaxed → IsState parts.variables state → are_below relaxed.facts (numbers_by relaxed.offsets state) ≡ true
-state_numbers_below parts kind relaxed state is of = rw (numbers_by-is parts.variables relaxed.offsets state is.offsets of, is.facts) (state_below parts.variables state of)
+pub all_evaluated : (parts : Parts) (kind : CostKind) (relaxed : Lists) (state without : List ℕ) (t : Settlement) → IsRelaxed parts kind relaxed → IsIdle t.waiting → IsSettling relaxed.unaries t →
+    IsFrom relaxed.unaries without (start_facts parts state) t → IsEvaluatedByNumber parts kind state without t.costs
+all_evaluated parts kind relaxed state without t is idle way from fact = rw (← is.unaries) (idle_exact relaxed.unaries (start_facts parts state) without t idle way from fact)
 
-pub excluded_is : (parts : Parts) (kind : CostKind) (relaxed : Lists) (facts : List Fact) → IsRelaxed parts kind relaxed → list_all (is_fact parts.variables) facts ≡ true → map (number_by relaxed.offsets) facts ≡ numbers_of parts.variables facts
-excluded_is parts kind relaxed facts is all = numbers_same parts.variables relaxed.offsets facts is.offsets all
-
-pub excluded_below : (parts : Parts) (kind : CostKind) (relaxed : Lists) (facts : List Fact) → IsRelaxed parts kind relaxed → list_all (is_fact parts.variables) facts ≡ true → are_below relaxed.facts (map (number_by relaxed.offsets) facts) ≡ true
-excluded_below parts kind relaxed facts is all = rw (excluded_is parts kind relaxed facts is all, is.facts) (numbers_below parts.variables facts all)
-
--- the numbers of a relaxation
-start_as : (parts : Parts) (kind : CostKind) (relaxed : Lists) (state without : List ℕ) (t : Settlement) (fact : ℕ) → IsRelaxed parts kind relaxed → IsState parts.variables state →
-    IsLeast (λ n. add_round relaxed.unaries (numbers_by relaxed.offsets state ++ relaxed.defaults) without n fact) (value_at t.costs fact) → IsAdd parts kind state without fact (value_at t.costs fact)
-start_as parts kind relaxed state without t fact is of least =
-    subst (λ (us : List Unary). IsLeast (λ (n : ℕ). add_round us (start_facts parts state) without n fact) (value_at t.costs fact)) is.unaries
-    (subst (λ (start : List ℕ). IsLeast (λ (n : ℕ). add_round relaxed.unaries start without n fact) (value_at t.costs fact)) (start_numbers parts kind relaxed state is of) least)
-
-pub all_evaluated : (parts : Parts) (kind : CostKind) (relaxed : Lists) (state without : List ℕ) (t : Settlement) → IsRelaxed parts kind relaxed → IsState parts.variables state → IsIdle t.waiting → IsSettling relaxed.unaries t →
-    IsFrom relaxed.unaries without (numbers_by relaxed.offsets state ++ relaxed.defaults) t → IsEvaluatedByNumber parts kind state without t.costs
-all_evaluated parts kind relaxed state without t is of idle way from fact =
-    start_as parts kind relaxed state without t fact is of (idle_exact relaxed.unaries (numbers_by relaxed.offsets state ++ relaxed.defaults) without t idle way from fact)
-
-pub all_ordered : (parts : Parts) (kind : CostKind) (relaxed : Lists) (state : List ℕ) (t : Settlement) → IsRelaxed parts kind relaxed → IsState parts.variables state → IsIdle t.waiting → IsSettling relaxed.unaries t →
-    IsFrom relaxed.unaries [] (numbers_by relaxed.offsets state ++ relaxed.defaults) t → IsOrder relaxed.unaries (start_facts parts state) (value_at t.costs) t.order
-all_ordered parts kind relaxed state t is of idle way from =
-    subst (λ (start : List ℕ). IsOrder relaxed.unaries start (value_at t.costs) t.order) (start_numbers parts kind relaxed state is of) (order_of relaxed.unaries (numbers_by relaxed.offsets state ++ relaxed.defaults) t idle way from)
-
-pub goals_evaluated : (parts : Parts) (kind : CostKind) (relaxed : Lists) (state goals : List ℕ) (t : Settlement) → IsRelaxed parts kind relaxed → IsState parts.variables state → AreSettled goals t → IsSettling relaxed.unaries t →
-    IsFrom relaxed.unaries [] (numbers_by relaxed.offsets state ++ relaxed.defaults) t → (fact : ℕ) → is_among goals fact ≡ true → IsAdd parts kind state [] fact (value_at t.costs fact)
-goals_evaluated parts kind relaxed state goals t is of settled way from fact among = start_as parts kind relaxed state [] t fact is of (by_case settled)
-  where
-    by_case : AreSettled goals t → IsLeast (λ n. add_round relaxed.unaries (numbers_by relaxed.offsets state ++ relaxed.defaults) [] n fact) (value_at t.costs fact)
-    by_case (inl all) =
-        reached_exact relaxed.unaries (numbers_by relaxed.offsets state ++ relaxed.defaults) [] t fact (reached_if t fact (all_has over_numbers (is_settled t) goals fact all among) (from.out fact)) way from
-    by_case (inr idle) = idle_exact relaxed.unaries (numbers_by relaxed.offsets state ++ relaxed.defaults) [] t idle way from fact
-
--- nothing is left out where no facts are given
-pub none_excluded : (offsets : List ℕ) (facts : List Fact) (n : ℕ) → facts ≡ [] → are_below n (map (number_by offsets) facts) ≡ true
-none_excluded offsets facts n none = rw none refl
+pub goals_evaluated : (parts : Parts) (kind : CostKind) (relaxed : Lists) (state goals : List ℕ) (t : Settlement) → IsRelaxed parts kind relaxed → AreSettled goals t → IsSettling relaxed.unaries t →
+    IsFrom relaxed.unaries [] (start_facts parts state) t → (fact : ℕ) → is_among goals fact ≡ true → IsAdd parts kind state [] fact (value_at t.costs fact)
+goals_evaluated parts kind relaxed state goals t is settled way from fact among = rw (← is.unaries) (elim settled [
+  | inl all ↦ reached_exact relaxed.unaries (start_facts parts state) [] t fact (reached_if t fact (all_has over_numbers (is_settled t) goals fact all among) (from.out fact)) way from
+  | inr idle ↦ idle_exact relaxed.unaries (start_facts parts state) [] t idle way from fact
+])

@@ -4,7 +4,7 @@ use Rattle.cost_queue.specs.Occurrences.{occurrences}
 use Rattle.relaxed_task.specs.declared.unary.Unary.{Unary}
 use Rattle.h_add.specs.Networks.{IsNeeds}
 use Rattle.h_add.proofs.Growing.{needed_more}
-use Rattle.h_add.proofs.needs.add_each.Goals as goal
+use Rattle.h_add.proofs.network.add_each.Goals as goal
 
 pub loop-i-init : goal.loop-i-init
 loop-i-init c = record { long = refl; needed = λ none fact i. ap (occurrences i) (none fact) }
