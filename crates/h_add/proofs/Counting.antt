@@ -331,6 +331,9 @@ one_met unaries level row t now k place lt at step way = step (drop (k + 1) row)
 pub all_met : (unaries : List Unary) (level : ℕ) (row : List ℕ) (t : Settlement) (k : ℕ) → length row ≤ k → IsUnderWay unaries level (drop k row) t → IsUnderWay unaries level [] t
 all_met unaries level row t k le way = rw drop_all at way
 
+pub none_counted : (t : Settlement) → HasCounted t t
+none_counted t = record { settled = refl; order = refl; costs_long = refl; waiting_long = refl; kept = λ fact is. refl }
+
 -- what was counted after what was counted
 pub counted_more : (t u v : Settlement) → HasCounted t u → HasCounted u v → HasCounted t v
 counted_more t u v a b = record {

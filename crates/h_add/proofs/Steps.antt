@@ -16,7 +16,7 @@ use Rattle.relaxed_task.specs.Numbers.{is_among, is_below, over_numbers}
 use Rattle.relaxed_task.specs.declared.unary.Unary.{Unary}
 use Rattle.h_add.specs.declared.network.Open.{Open}
 use Rattle.h_add.specs.UnderWay.{Settlement, cost_at, is_settled, is_reached, is_left_out, open_at, unsettled, given_at, there_at, one_open, share, summed, IsCounted, IsWaiting, IsUnderWay, left_to_do, IsFrom, HasCounted, IsSettling, IsLater, IsFresh, HasMarked, IsWanted, HasSettled, AreSettled}
-use Rattle.h_add.proofs.Counting.{reached_if, unsettled_not, sum_changed, reached_same, all_reached, There, unary_there, finite_is, infinite_is, reached_small, price_sum, itself}
+use Rattle.h_add.proofs.Counting.{none_counted, reached_if, unsettled_not, sum_changed, reached_same, all_reached, There, unary_there, finite_is, infinite_is, reached_small, price_sum, itself}
 use Rattle.std.specs.List.{list_all}
 use Rattle.std.proofs.Math.Path.{fun_ext}
 use Rattle.std.proofs.lemmas.Option.{slice_get_within, get_or_from_slice_get}
@@ -208,23 +208,6 @@ fewer_or_same flags fact = elim (cases_lt fact (length flags)) [
 pub few_unsettled : (flags : List Bool) → unsettled flags ≤ length flags
 few_unsettled flags = count_by-le-length not flags
 
-pub passed_less : (t now : Settlement) (entry : Entry) → IsTaken t.waiting now.waiting entry → now.settled ≡ t.settled → length now.waiting ≡ length t.waiting → left_to_do now < left_to_do t
-passed_less t now entry taken settled long =
-    let fewer = taken_fewer t.waiting now.waiting entry taken in
-    let same : unsettled now.settled * (length now.waiting + 1) ≡ unsettled t.settled * (length t.waiting + 1) = ap (λ (fs : List Bool). unsettled fs * (length now.waiting + 1)) settled ∙ ap (λ (n : ℕ). unsettled t.settled * (n + 1)) long in
-    omega (arith, fewer, same)
-
-pub settled_less : (t now : Settlement) (fact : ℕ) → fact < length t.settled → is_settled t fact ≡ false → now.settled ≡ slice_set t.settled fact true → length now.waiting ≡ length t.waiting → left_to_do now < left_to_do t
-settled_less t now fact lt new settled long =
-    let one = fewer_unsettled t.settled fact lt new in
-    let some = waiting_within now.waiting in
-    let here : unsettled t.settled * (length t.waiting + 1) ≡ unsettled now.settled * (length now.waiting + 1) + (length now.waiting + 1) =
-    ap (λ (n : ℕ). unsettled t.settled * (n + 1)) (sym long) ∙ (ap (λ (n : ℕ). n * (length now.waiting + 1)) (sym one ∙ ap (λ (fs : List Bool). unsettled fs + 1) (sym settled)) ∙ once (unsettled now.settled) (length now.waiting + 1)) in
-    omega (arith, some, here)
-  where
-    once : (a b : ℕ) → (a + 1) * b ≡ a * b + b
-    once a b = omega arith
-
 -- one more in an order
 pub turned : (x : ℕ) (facts more : List ℕ) → is_among (facts ++ x ∷ more) ≡ is_among (x ∷ (facts ++ more))
 turned x facts more = fun_ext (λ fact.
@@ -371,7 +354,12 @@ given_later unaries t now last fact price row g way counted = record {
 }
 
 pub given_less : (unaries : List Unary) (t now last : Settlement) (fact price : ℕ) (row : List ℕ) → IsGiven unaries t now fact price row → HasCounted now last → left_to_do last < left_to_do t
-given_less unaries t now last fact price row g counted = settled_less t last fact g.within g.new (counted.settled ∙ g.settled) (counted.waiting_long ∙ g.waiting_long)
+given_less unaries t now last fact price row g counted =
+    let some = waiting_within last.waiting in
+    let long = counted.waiting_long ∙ g.waiting_long in
+    let one = fewer_unsettled t.settled fact g.within g.new in
+    let here : unsettled t.settled * (length t.waiting + 1) ≡ (unsettled last.settled + 1) * (length last.waiting + 1) = rw (long, counted.settled, g.settled, one) refl in
+    omega (arith, some, here)
 
 -- where only what waits changed
 pub waits_later : (unaries : List Unary) (t mid : Settlement) → mid ≡ record t { waiting = mid.waiting } → IsSettling unaries mid → IsLater unaries t mid
@@ -389,8 +377,11 @@ passed_later unaries t mid fact entry waiting_long mid_is taken gives old s =
     let u = unary_there unaries entry.number (taken_within unaries t mid entry taken waiting_long s) in
     waits_later unaries t mid mid_is (record { level = entry.price; way = rw mid_is (passed_way unaries s.level t mid.waiting entry u.unary fact u.at (gives u.unary u.at) taken (settled_mid t mid fact true mid_is old) s.way) })
 
-pub passed_less_now : (t mid : Settlement) (entry : Entry) → mid ≡ record t { waiting = mid.waiting } → IsTaken t.waiting mid.waiting entry → left_to_do mid < left_to_do t
-passed_less_now t mid entry mid_is taken = passed_less t mid entry taken (ap (λ (s : Settlement). s.settled) mid_is) (ap length taken.rest ∙ length-set t.waiting entry.number None)
+pub passed_less : (t mid : Settlement) (entry : Entry) → mid ≡ record t { waiting = mid.waiting } → IsTaken t.waiting mid.waiting entry → left_to_do mid < left_to_do t
+passed_less t mid entry mid_is taken = rw mid_is
+    (let fewer = taken_fewer t.waiting mid.waiting entry taken in
+    let same : unsettled t.settled * (length mid.waiting + 1) ≡ unsettled t.settled * (length t.waiting + 1) = ap (λ (n : ℕ). unsettled t.settled * (n + 1)) (ap length taken.rest ∙ length-set t.waiting entry.number None) in
+    omega (arith, fewer, same))
 
 -- none waits
 pub none_later : (unaries : List Unary) (t mid : Settlement) → mid ≡ record t { waiting = mid.waiting } → mid.waiting ≡ t.waiting → IsSettling unaries t → IsLater unaries t mid
@@ -483,7 +474,7 @@ counted_marked unaries t now way counted = record {
 
 -- a list is marked one by one
 pub none_marked : (unaries : List Unary) (t : Settlement) → IsUnderWay unaries 0 [] t → HasMarked unaries [] t t
-none_marked unaries t way = counted_marked unaries t t way (record { settled = refl; order = refl; costs_long = refl; waiting_long = refl; kept = λ fact is. refl })
+none_marked unaries t way = counted_marked unaries t t way (none_counted t)
 
 pub taken_marked : (unaries : List Unary) (facts : List ℕ) (k fact : ℕ) (s t now : Settlement) → k < length facts → fact ≡ get_or facts k 0 → HasMarked unaries (take k facts) s t → HasMarked unaries (fact ∷ []) t now → HasMarked unaries (take (k + 1) facts) s now
 taken_marked unaries facts k fact s t now lt at a b = rw (take_more facts k 0 lt, ← at) (marked_more unaries (take k facts) (fact ∷ []) s t now a b)

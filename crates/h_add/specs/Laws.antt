@@ -45,9 +45,6 @@ evaluated_facts parts kind state without costs formed of all each = record {
 abbrev pub AreGoalCosts : Parts → CostKind → List ℕ → List ℕ → Type 0
 AreGoalCosts parts kind state costs = (place : ℕ) (goal : Fact) → slice_get parts.goal place ≡ Some goal → IsAdditiveCost parts kind state [] goal (costs_by parts.variables (value_at costs) goal)
 
-pub goals_of_all : (parts : Parts) (kind : CostKind) (state costs : List ℕ) → IsWellFormed parts → IsEvaluated parts kind state [] costs → AreGoalCosts parts kind state costs
-goals_of_all parts kind state costs formed evaluated place goal at = evaluated.each goal (list_all_get (is_fact parts.variables) parts.goal place goal (goal-facts parts formed) at)
-
 pub goals_by_number : (parts : Parts) (kind : CostKind) (relaxed : Lists) (state costs : List ℕ) → IsRelaxed parts kind relaxed → IsState parts.variables state → ((fact : ℕ) → is_among relaxed.goals fact ≡ true → IsAdd parts kind state [] fact (value_at costs fact)) →
     AreGoalCosts parts kind state costs
 goals_by_number parts kind relaxed state costs is of each place goal at =
@@ -93,11 +90,14 @@ dead_by_goals parts kind relaxed state costs value is each sums = (
     exactly : (place : ℕ) (goal : Fact) → slice_get parts.goal place ≡ Some goal → (is_finite (costs_by parts.variables (value_at costs) goal) ≡ true) ↔ IsReached parts state [] goal
     exactly place goal at = finite_exactly parts kind state [] goal (costs_by parts.variables (value_at costs) goal) (each place goal at)
 
+pub dead_of_all : (parts : Parts) (kind : CostKind) (relaxed : Lists) (state costs : List ℕ) (value : Estimate) → IsRelaxed parts kind relaxed → IsEvaluated parts kind state [] costs → value ≡ total (value_at costs) relaxed.goals → (value ≡ Infinite) ↔ IsDead parts state
+dead_of_all parts kind relaxed state costs value is evaluated sums = dead_by_goals parts kind relaxed state costs value is (λ place goal at. evaluated.each goal (list_all_get (is_fact parts.variables) parts.goal place goal (goal-facts parts is.well_formed) at)) sums
+
 -- the goal facts are reached where the state isn't dead
 pub finite_if_alive : (parts : Parts) (kind : CostKind) (relaxed : Lists) (state costs : List ℕ) → IsRelaxed parts kind relaxed → IsEvaluated parts kind state [] costs → (IsDead parts state → ⊥) → list_all (λ fact. is_finite (value_at costs fact)) relaxed.goals ≡ true
 finite_if_alive parts kind relaxed state costs is evaluated alive =
     sym (sum_finite (value_at costs) relaxed.goals)
-    ∙ true_from_ne_false _ (λ none. alive ((dead_by_goals parts kind relaxed state costs (total (value_at costs) relaxed.goals) is (goals_of_all parts kind state costs is.well_formed evaluated) refl).0 (infinite_where_not _ none)))
+    ∙ true_from_ne_false _ (λ none. alive ((dead_of_all parts kind relaxed state costs (total (value_at costs) relaxed.goals) is evaluated refl).0 (infinite_where_not _ none)))
 
 -- one place more of an order
 pub chosen_grows : (unaries : List Unary) (order : List ℕ) (i : ℕ) (u : Unary) → slice_get unaries i ≡ Some u → chosen unaries (order ++ i ∷ []) ≡ chosen unaries order ++ u ∷ []

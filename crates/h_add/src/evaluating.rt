@@ -63,6 +63,7 @@ impl Settling {
     }
 
     /// Lets the facts of a state be there at first.
+    #[tactic(auto, using(crate::proofs::Steps::none_marked))]
     fn mark_state(&mut self, network: &Network, state: &[u32])
         requires facts { network.now.facts ≡ length self.old.costs }
         requires way { IsUnderWay network.now.unaries 0 [] self.old }
@@ -120,6 +121,7 @@ impl Settling {
     }
 
     /// Settles facts until all goal facts are settled or none waits.
+    #[tactic(auto, using(crate::proofs::Steps::now_later, crate::proofs::Growing::below_at))]
     fn settle_goals(&mut self, network: &Network)
         requires facts { network.now.facts ≡ length self.old.costs }
         requires way { IsSettling network.now.unaries self.old }
@@ -134,6 +136,7 @@ impl Settling {
     }
 
     /// Evaluates a state without some facts.
+    #[tactic(auto, using(crate::proofs::Steps::places_of))]
     pub fn evaluate(&mut self, network: &Network, state: &[u32], excluded: &[Fact])
         requires facts { network.now.facts ≡ length self.old.costs }
         requires unaries { length self.old.opens ≡ length network.now.unaries }
@@ -157,6 +160,7 @@ impl Settling {
     }
 
     /// Evaluates a state, and stops where the goal facts are settled: they cost what they do.
+    #[tactic(auto, using(crate::proofs::Steps::places_of))]
     pub fn evaluate_goals(&mut self, network: &Network, state: &[u32])
         requires facts { network.now.facts ≡ length self.old.costs }
         requires unaries { length self.old.opens ≡ length network.now.unaries }

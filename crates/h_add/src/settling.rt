@@ -177,6 +177,7 @@ impl Settling {
 
     /// Counts a fact of this cost among the conditions of a unary operator, which offers what it
     /// gives if it has no other open.
+    #[tactic(auto, using(crate::proofs::Counting::met_some, crate::proofs::Counting::met_all))]
     fn meet(&mut self, network: &Network, place: u32, value: u32)
         requires facts { network.now.facts ≡ length self.old.costs }
         requires place { place < length network.now.unaries }
@@ -193,6 +194,7 @@ impl Settling {
 
     /// Counts a fact of this cost among the conditions of several unary operators.
     #[inline(always)]
+    #[tactic(auto, using(crate::proofs::Counting::none_counted, crate::proofs::Counting::one_met, crate::proofs::Counting::all_met, crate::proofs::Counting::counted_more))]
     pub fn walk(&mut self, network: &Network, places: &[u32], value: u32)
         requires facts { network.now.facts ≡ length self.old.costs }
         requires places { IsTrue (are_places (length network.now.unaries) places.now) }

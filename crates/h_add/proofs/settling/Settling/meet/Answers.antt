@@ -17,12 +17,5 @@ pub returns-in-Some-clause-way : goal.returns-in-Some-clause-way
 returns-in-Some-clause-way c owed way =
     (met_all _ _ _ c.args.self.now c.requires.place owed way _ _ _ _ c.gives.ensures.gives (omega (arith, c.gives.ensures.below, c.requires.facts)) c.in-Some.ensures.long c.in-Some.ensures.counted c.in-Some.ensures.price c.offer.ensures).0
 
-pub returns-in-Some-clause-counted : goal.returns-in-Some-clause-counted
-returns-in-Some-clause-counted c =
-    (met_all _ _ _ c.args.self.now c.requires.place _ c.requires.way.way _ _ _ _ c.gives.ensures.gives (omega (arith, c.gives.ensures.below, c.requires.facts)) c.in-Some.ensures.long c.in-Some.ensures.counted c.in-Some.ensures.price c.offer.ensures).1
-
 pub returns-in_default-clause-way : goal.returns-in_default-clause-way
 returns-in_default-clause-way c owed way = (met_some _ _ _ c.args.self.now c.requires.place owed way _ c.in_default.ensures.counted c.in_default.ensures.price).0
-
-pub returns-in_default-clause-counted : goal.returns-in_default-clause-counted
-returns-in_default-clause-counted c = (met_some _ _ _ c.args.self.now c.requires.place _ c.requires.way.way _ c.in_default.ensures.counted c.in_default.ensures.price).1

@@ -1,5 +1,5 @@
 use Rattle.std.proofs.Common.{◌∙◌, sym}
-use Rattle.h_add.proofs.Steps.{taken_within, step_given, given_later, given_less, none_later, passed_later, passed_less_now}
+use Rattle.h_add.proofs.Steps.{taken_within, step_given, given_later, given_less, none_later, passed_later, passed_less}
 use Rattle.h_add.proofs.settling.Settling.step.Goals as goal
 
 pub returns-in_default-clause-later : goal.returns-in_default-clause-later
@@ -28,4 +28,4 @@ returns-else-not-is_settled-clause-later c =
     passed_later _ c.args.self.now c.pop.new.self _ c.in-Some.entry c.in-Some.ensures.places c.in-Some.ensures.rest c.in-Some.ensures.popped c.gives-fact.ensures.gives (sym c.is_settled.ensures ∙ c.if-not-is_settled.false) c.requires.way
 
 pub returns-else-not-is_settled-clause-less : goal.returns-else-not-is_settled-clause-less
-returns-else-not-is_settled-clause-less c = passed_less_now c.args.self.now c.pop.new.self c.in-Some.entry c.in-Some.ensures.rest c.in-Some.ensures.popped
+returns-else-not-is_settled-clause-less c = passed_less c.args.self.now c.pop.new.self c.in-Some.entry c.in-Some.ensures.rest c.in-Some.ensures.popped
