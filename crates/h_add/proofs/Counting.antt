@@ -20,11 +20,6 @@ use Rattle.std.proofs.Math.Path.{fun_ext}
 use Rattle.cost_queue.specs.Queues.{price_of}
 use Rattle.h_add.specs.declared.network.Open.{Open}
 
--- tests that are decided
-pub itself : (n : ℕ) → nat_eq n n ≡ true
-itself n = eq-eqb n n refl
-
-pub finite_is : (cost : ℕ) → cost ≤ 1000000000 → estimate_of cost ≡ Finite cost
 finite_is cost le = rw (le-leb cost 1000000000 le) refl
 
 pub infinite_is : (cost : ℕ) → 1000000000 < cost → estimate_of cost ≡ Infinite
@@ -157,7 +152,7 @@ module _ (unaries : List Unary) (level place : ℕ) (t : Settlement) (lt : place
   counts_some =
       let here = unary_there unaries place lt in
       let was = way.each place here.unary here.at in
-      let count = rw (itself place) at was.count in
+      let count = rw (eq-eqb place place refl) at was.count in
       (omega (arith, count), was.small)
 
   pub counts_idle : price_of t.waiting place ≡ None
@@ -186,8 +181,8 @@ module _ (unaries : List Unary) (level place : ℕ) (t : Settlement) (lt : place
           elim (places other place) [
             | inl here ↦ rw here.0
                 (let own = way.each place u (rw here.0 at at) in
-                let count_was : (open_at t place).count ≡ summed (one_open t) u.conds + (1 + occurrences place owed) = rw (itself place) at own.count in
-                let sum_was : min ((open_at t place).sum + (1 + occurrences place owed) * level) 1000000000 ≡ min (u.cost + summed (share t) u.conds) 1000000000 = rw (itself place) at own.sum in
+                let count_was : (open_at t place).count ≡ summed (one_open t) u.conds + (1 + occurrences place owed) = rw (eq-eqb place place refl) at own.count in
+                let sum_was : min ((open_at t place).sum + (1 + occurrences place owed) * level) 1000000000 ≡ min (u.cost + summed (share t) u.conds) 1000000000 = rw (eq-eqb place place refl) at own.sum in
                 let is = opens_is place ∙ open_here in
                 let count = ap (λ (o : Open). o.count) is in
                 let sum = ap (λ (o : Open). o.sum) is in

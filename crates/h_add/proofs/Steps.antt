@@ -1,7 +1,7 @@
 -- One fact after the other is settled, or passed over, and what is reached costs what it does by the rounds.
 use Rattle.std.proofs.Common.{◌≡◌, ◌≢◌, ◌∙◌, sym, ap, subst, refl, ℕ, ◌+◌, ◌*◌, ◌<◌, ◌≤◌, ◌⊎◌, inl, inr, List, [], ◌∷◌, ◌++◌, length, get_or, min, Bool, true, false, nat_eq, nat_le, not, ◌&&◌, ◌||◌, if◌then◌else◌, arith, Option, Some, None, slice_get, slice_set, get_or-set_other, get_or-set_same, append_assoc, max, take, zero, suc, nat_lt}
 use Rattle.std.proofs.Math.Bool.{or_assoc, or-false, or-true, and-true}
-use Rattle.std.proofs.lemmas.Bool.{and_right, or_parts, lt-ltb, cases_lt, eqb-true, le-leb, or_cases, lt-leb, ltb-true, false_from_ne_true, leb-true, leb-false}
+use Rattle.std.proofs.lemmas.Bool.{eq-eqb, and_right, or_parts, lt-ltb, cases_lt, eqb-true, le-leb, or_cases, lt-leb, ltb-true, false_from_ne_true, leb-true, leb-false}
 use Rattle.std.proofs.lemmas.List.{length-set, set_past, map-append, append-nil, set-get_or, take_more, take_all, get_or-map, length-map}
 use Rattle.std.proofs.lemmas.List.Folds.{list_any-append, list_any_more}
 use Rattle.std.proofs.lemmas.List.Sums.{sum_by-set, count_by-le-length}
@@ -16,7 +16,7 @@ use Rattle.relaxed_task.specs.Numbers.{is_among, is_below, over_numbers}
 use Rattle.relaxed_task.specs.declared.unary.Unary.{Unary}
 use Rattle.h_add.specs.declared.network.Open.{Open}
 use Rattle.h_add.specs.UnderWay.{Settlement, cost_at, is_settled, is_reached, is_left_out, open_at, unsettled, given_at, there_at, one_open, share, summed, IsCounted, IsWaiting, IsUnderWay, left_to_do, IsFrom, HasCounted, IsSettling, IsLater, IsFresh, HasMarked, IsWanted, HasSettled, AreSettled}
-use Rattle.h_add.proofs.Counting.{none_counted, reached_if, unsettled_not, sum_changed, reached_same, all_reached, There, unary_there, finite_is, infinite_is, reached_small, price_sum, itself}
+use Rattle.h_add.proofs.Counting.{none_counted, reached_if, unsettled_not, sum_changed, reached_same, all_reached, There, unary_there, finite_is, infinite_is, reached_small, price_sum}
 use Rattle.std.specs.List.{list_all}
 use Rattle.std.proofs.Math.Path.{fun_ext}
 use Rattle.std.proofs.lemmas.Option.{slice_get_within, get_or_from_slice_get}
@@ -361,32 +361,21 @@ given_less unaries t now last fact price row g counted =
     let here : unsettled t.settled * (length t.waiting + 1) ≡ (unsettled last.settled + 1) * (length last.waiting + 1) = rw (long, counted.settled, g.settled, one) refl in
     omega (arith, some, here)
 
--- where only what waits changed
-pub waits_later : (unaries : List Unary) (t mid : Settlement) → mid ≡ record t { waiting = mid.waiting } → IsSettling unaries mid → IsLater unaries t mid
-waits_later unaries t mid mid_is way = record {
-  way = way;
-  from = λ without had from. subst (λ (z : Settlement). IsFrom unaries without had z) (sym mid_is) (record { out = from.out; settled = from.settled; first = from.first; in_order = from.in_order });
-  long = ap (λ (z : Settlement). length z.costs) mid_is;
-  stays = λ fact is. ap (λ (z : Settlement). is_settled z fact) mid_is ∙ is;
-}
-
 -- or its fact is settled already
 pub passed_later : (unaries : List Unary) (t mid : Settlement) (fact : ℕ) (entry : Entry) → length t.waiting ≡ length t.opens → mid ≡ record t { waiting = mid.waiting } → IsTaken t.waiting mid.waiting entry → ((u : Unary) → slice_get unaries entry.number ≡ Some u → fact ≡ u.gives) →
     is_settled mid fact ≡ true → IsSettling unaries t → IsLater unaries t mid
-passed_later unaries t mid fact entry waiting_long mid_is taken gives old s =
-    let u = unary_there unaries entry.number (taken_within unaries t mid entry taken waiting_long s) in
-    waits_later unaries t mid mid_is (record { level = entry.price; way = rw mid_is (passed_way unaries s.level t mid.waiting entry u.unary fact u.at (gives u.unary u.at) taken (settled_mid t mid fact true mid_is old) s.way) })
+passed_later unaries t mid fact entry waiting_long mid_is taken gives old s = rw mid_is (record {
+  way = record { level = entry.price; way = (let u = unary_there unaries entry.number (taken_within unaries t mid entry taken waiting_long s) in passed_way unaries s.level t mid.waiting entry u.unary fact u.at (gives u.unary u.at) taken (settled_mid t mid fact true mid_is old) s.way) };
+  from = λ without had from. record { out = from.out; settled = from.settled; first = from.first; in_order = from.in_order };
+  long = refl;
+  stays = λ f is. is;
+})
 
 pub passed_less : (t mid : Settlement) (entry : Entry) → mid ≡ record t { waiting = mid.waiting } → IsTaken t.waiting mid.waiting entry → left_to_do mid < left_to_do t
 passed_less t mid entry mid_is taken = rw mid_is
     (let fewer = taken_fewer t.waiting mid.waiting entry taken in
     let same : unsettled t.settled * (length mid.waiting + 1) ≡ unsettled t.settled * (length t.waiting + 1) = ap (λ (n : ℕ). unsettled t.settled * (n + 1)) (ap length taken.rest ∙ length-set t.waiting entry.number None) in
     omega (arith, fewer, same))
-
--- none waits
-pub none_later : (unaries : List Unary) (t mid : Settlement) → mid ≡ record t { waiting = mid.waiting } → mid.waiting ≡ t.waiting → IsSettling unaries t → IsLater unaries t mid
-none_later unaries t mid mid_is same s =
-    waits_later unaries t mid mid_is (subst (λ (z : Settlement). IsSettling unaries z) (sym (mid_is ∙ ap (λ (w : List (Option ℕ)). record { costs = t.costs; settled = t.settled; opens = t.opens; waiting = w; order = t.order }) same)) s)
 
 -- later and later
 pub later_more : (unaries : List Unary) (t u v : Settlement) → IsLater unaries t u → IsLater unaries u v → IsLater unaries t v
@@ -399,6 +388,10 @@ later_more unaries t u v a b = record {
 
 pub now_later : (unaries : List Unary) (t : Settlement) → IsSettling unaries t → IsLater unaries t t
 now_later unaries t way = record { way = way; from = λ without had from. from; long = refl; stays = λ fact is. is }
+
+-- none waits
+pub none_later : (unaries : List Unary) (t mid : Settlement) → mid ≡ record t { waiting = mid.waiting } → mid.waiting ≡ t.waiting → IsSettling unaries t → IsLater unaries t mid
+none_later unaries t mid mid_is same s = rw (mid_is, same) (now_later unaries t s)
 
 -- nothing is reached
 none_reached : (unaries : List Unary) (t : Settlement) → IsFresh unaries t → (fact : ℕ) → is_reached t fact ≡ false
@@ -634,7 +627,7 @@ all_best unaries level t (i ∷ order) each way =
     (rw lt rest.0, rw here.at (best, rest.1))
   where
     among : (i : ℕ) → is_among (i ∷ order) i ≡ true
-    among i = rw (itself i) refl
+    among i = rw (eq-eqb i i refl) refl
 
     later : (place : ℕ) → is_among order place ≡ true → is_among (i ∷ order) place ≡ true
     later place is = by_test (nat_eq place i)
