@@ -1,5 +1,5 @@
 -- What is reached, sums of costs, and one unary operator that counts a fact.
-use Rattle.std.proofs.Common.{◌≡◌, ◌≢◌, ◌∙◌, sym, ap, refl, ℕ, ◌+◌, ◌*◌, ◌<◌, ◌≤◌, inl, inr, List, [], ◌∷◌, get_or, min, Bool, true, false, nat_eq, nat_le, not, ◌&&◌, arith, Some, slice_get, length, drop, zero, suc, ◌⊎◌, nat_lt, Option, None, slice_set, get_or-set_other, get_or-set_same, if◌then◌else◌}
+use Rattle.std.proofs.Common.{◌≡◌, ◌≢◌, ◌∙◌, sym, ap, refl, ℕ, ◌+◌, ◌*◌, ◌<◌, ◌≤◌, inl, inr, List, [], ◌∷◌, get_or, min, Bool, true, false, nat_le, not, ◌&&◌, arith, Some, slice_get, length, drop, zero, suc, ◌⊎◌, nat_lt, Option, None, slice_set, get_or-set_other, get_or-set_same, if◌then◌else◌}
 use Rattle.std.specs.List.{list_all}
 use Rattle.std.proofs.lemmas.Bool.{eq-eqb, le-leb, lt-leb, leb-true, ltb-true, ltb-false}
 use Rattle.cost_queue.specs.Occurrences.{one_if, occurrences}
@@ -20,6 +20,7 @@ use Rattle.std.proofs.Math.Path.{fun_ext}
 use Rattle.cost_queue.specs.Queues.{price_of}
 use Rattle.h_add.specs.declared.network.Open.{Open}
 
+pub finite_is : (cost : ℕ) → cost ≤ 1000000000 → estimate_of cost ≡ Finite cost
 finite_is cost le = rw (le-leb cost 1000000000 le) refl
 
 pub infinite_is : (cost : ℕ) → 1000000000 < cost → estimate_of cost ≡ Infinite

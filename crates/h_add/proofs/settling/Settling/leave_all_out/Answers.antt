@@ -1,4 +1,4 @@
-use Rattle.std.proofs.Common.{◌≡◌, true, ◌<◌, ◌∙◌, ap, sym, ℕ, List, length, map, refl, arith}
+use Rattle.std.proofs.Common.{◌≡◌, true, ◌<◌, ◌∙◌, ap, sym, ℕ, List, length, map, arith}
 use Rattle.std.proofs.lemmas.List.{get_or-map, length-map, take_all}
 use Rattle.relaxed_task.specs.Numbers.{number_by, is_among}
 use Rattle.relaxed_task.specs.NumberLaws.{numbers_same, numbers_below}
@@ -6,9 +6,6 @@ use Rattle.h_add.specs.Networks.{are_below}
 use Rattle.h_add.proofs.Growing.{below_at}
 use Rattle.h_add.proofs.Steps.{out_more}
 use Rattle.h_add.proofs.settling.Settling.leave_all_out.Goals as goal
-
-pub loop-fact-init : goal.loop-fact-init
-loop-fact-init c = record { fresh = λ unaries f. f; out = λ below none fact. none fact; long = refl }
 
 pub loop-fact-preserved : goal.loop-fact-preserved
 loop-fact-preserved c = record {
