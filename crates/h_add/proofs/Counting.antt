@@ -339,3 +339,7 @@ counted_more t u v a b = record {
   waiting_long = b.waiting_long ∙ a.waiting_long;
   kept = λ fact is. b.kept fact (ap (λ (fs : List Bool). get_or fs fact false) a.settled ∙ is) ∙ a.kept fact is;
 }
+
+pub ruleset sums = (sum_starts, sum_grows, sum_infinite, sum_ends)
+
+pub ruleset walks = (none_counted, one_met, all_met, counted_more)

@@ -25,7 +25,7 @@ use Rattle.h_add.specs.ByNumber.{IsInOrder, price, is_started, add_round, IsClos
 use Rattle.h_add.specs.Orders.{chosen, given_by, are_places, IsOrder}
 use Rattle.h_add.specs.Laws.{chosen_grows}
 use Rattle.h_add.specs.Networks.{needed, IsNeededBy, AreFree, open_at_start}
-use Rattle.h_add.proofs.Growing.{needed_at}
+use Rattle.h_add.proofs.Growing.{needed_at, written_back}
 use Rattle.lama_num.specs.declared.estimates.Estimate.{Estimate}
 use Rattle.lama_num.specs.declared.estimates.Estimate.TheVariants.{Finite, Infinite}
 use Rattle.relaxed_task.specs.CostLaws.{price_at_most, price_attained, sum_capped}
@@ -762,3 +762,7 @@ goals_evaluated parts kind relaxed state goals t is settled way from fact among 
   | inl all ↦ reached_exact relaxed.unaries (start_facts parts state) [] t fact (reached_if t fact (all_has over_numbers (is_settled t) goals fact all among) (from.out fact)) way from
   | inr idle ↦ idle_exact relaxed.unaries (start_facts parts state) [] t idle way from fact
 ])
+
+pub ruleset marks = (none_marked, taken_marked, all_marked)
+
+pub ruleset cleared = (few_unsettled, written_back)

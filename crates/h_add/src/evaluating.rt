@@ -51,7 +51,7 @@ impl Settling {
     }
 
     /// Lets some facts be there at first.
-    #[tactic(auto, using(crate::proofs::Steps::none_marked, crate::proofs::Steps::taken_marked, crate::proofs::Steps::all_marked))]
+    #[tactic(auto, using(crate::proofs::Steps::marks))]
     fn mark_all(&mut self, network: &Network, facts: &[u32])
         requires facts { network.now.facts ≡ length self.old.costs }
         requires way { IsUnderWay network.now.unaries 0 [] self.old }

@@ -96,7 +96,7 @@ impl Settling {
     }
 
     /// Begins again: no fact is reached, and none is settled.
-    #[tactic(auto, using(crate::proofs::Steps::few_unsettled, crate::proofs::Growing::written_back))]
+    #[tactic(auto, using(crate::proofs::Steps::cleared))]
     pub fn clear(&mut self, network: &Network)
         requires { length self.old.opens ≡ length network.now.unaries }
         ensures fresh { IsFresh network.now.unaries self.new }
@@ -194,7 +194,7 @@ impl Settling {
 
     /// Counts a fact of this cost among the conditions of several unary operators.
     #[inline(always)]
-    #[tactic(auto, using(crate::proofs::Counting::none_counted, crate::proofs::Counting::one_met, crate::proofs::Counting::all_met, crate::proofs::Counting::counted_more))]
+    #[tactic(auto, using(crate::proofs::Counting::walks))]
     pub fn walk(&mut self, network: &Network, places: &[u32], value: u32)
         requires facts { network.now.facts ≡ length self.old.costs }
         requires places { IsTrue (are_places (length network.now.unaries) places.now) }
