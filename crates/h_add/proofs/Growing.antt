@@ -1,5 +1,5 @@
 -- Lists that grow by a place.
-use Rattle.std.proofs.Common.{◌≡◌, ◌∙◌, sym, ap, refl, ℕ, zero, suc, ◌+◌, ◌<◌, ◌≤◌, inl, inr, List, [], ◌∷◌, ◌++◌, length, get_or, take, drop, ◌-◌, replicate, map, Bool, true, false, nat_eq, arith, Some, slice_get, slice_set, get_or-set_other, get_or-set_same, if◌then◌else◌}
+use Rattle.std.proofs.Common.{◌≡◌, ◌∙◌, sym, ap, refl, ℕ, ◌+◌, ◌<◌, ◌≤◌, inl, inr, List, [], ◌∷◌, ◌++◌, length, get_or, take, drop, ◌-◌, map, Bool, true, false, nat_eq, arith, Some, slice_get, slice_set, get_or-set_other, get_or-set_same, if◌then◌else◌}
 use Rattle.std.specs.List.{list_all}
 use Rattle.std.proofs.lemmas.Bool.{cases_lt, cases_order, eq-eqb, lt-ltb, ltb-true, ne_eqb}
 use Rattle.std.proofs.lemmas.Bool.Decides.{nat_tests}
@@ -12,20 +12,12 @@ use Rattle.relaxed_task.specs.declared.unary.Unary.{Unary}
 use Rattle.relaxed_task.specs.Numbers.{is_below, is_unary_below}
 use Rattle.relaxed_task.specs.Elements.{places, join}
 use Rattle.relaxed_task.specs.NumberLaws.{weaker}
-use Rattle.h_add.proofs.Reaching.{itself}
-use Rattle.h_add.specs.Listings.{Listed}
-use Rattle.h_add.specs.Networks.{are_within, are_below, needed, IsNeeds, IsNeededBy, AreFree}
+use Rattle.h_add.specs.Orders.{are_places}
+use Rattle.h_add.specs.Networks.{are_below, needed, IsNeeds, IsNeededBy, AreFree, Listed}
 
 occurrences_last : (x : ℕ) (ys : List ℕ) (y : ℕ) → occurrences x (ys ++ y ∷ []) ≡ occurrences x ys + one_if (nat_eq x y)
 occurrences_last x [] y = omega arith
 occurrences_last x (z ∷ ys) y = let rest = occurrences_last x ys y in omega arith
-
-pub none_added : (old : List (List ℕ)) (place : ℕ) → Listed old old [] place
-none_added old place = record { long = refl; counts = λ fact i. by_test (nat_eq i place) (occurrences i (row_at old fact)) }
-  where
-    by_test : (b : Bool) (n : ℕ) → n ≡ n + (if b then 0 else 0)
-    by_test true n = omega arith
-    by_test false n = omega arith
 
 -- one list grew
 pub fact_added : (old mid new : List (List ℕ)) (facts : List ℕ) (k fact place : ℕ) → k < length facts → fact ≡ get_or facts k 0 → fact < length mid → new ≡ slice_set mid fact (row_at mid fact ++ place ∷ []) →
@@ -72,22 +64,16 @@ needed_at unaries always fact row needs i u at =
     needs i ∙ (get_or-map (λ x. occurrences fact (needed always x.conds)) unaries i u 0 (slice_get_within unaries i u at) ∙ ap (λ (x : Unary). occurrences fact (needed always x.conds)) (get_or_from_slice_get unaries i u u at))
 
 -- a row has places of unary operators alone
-all_within : (n : ℕ) (row : List ℕ) → ((i : ℕ) → n ≤ i → occurrences i row ≡ 0) → are_within n row ≡ true
+all_within : (n : ℕ) (row : List ℕ) → ((i : ℕ) → n ≤ i → occurrences i row ≡ 0) → are_places n row ≡ true
 all_within n [] none = refl
 all_within n (c ∷ row) none = elim (cases_lt c n) [
   | inl lt ↦ rw (lt-ltb c n lt) (all_within n row (λ i le. let all = none i le in omega (arith, all)))
-  | inr le ↦ absurd (let all = none c le in let one : one_if (nat_eq c c) ≡ 1 = ap one_if (itself c) in omega (arith, all, one))
+  | inr le ↦ absurd (let all = none c le in let one : one_if (nat_eq c c) ≡ 1 = ap one_if (eq-eqb c c refl) in omega (arith, all, one))
 ]
 
-pub row_within : (unaries : List Unary) (always fact : ℕ) (row : List ℕ) → IsNeededBy unaries always fact row → are_within (length unaries) row ≡ true
+pub row_within : (unaries : List Unary) (always fact : ℕ) (row : List ℕ) → IsNeededBy unaries always fact row → are_places (length unaries) row ≡ true
 row_within unaries always fact row needs =
     all_within (length unaries) row (λ i le. needs i ∙ get_or_past (map (λ x. occurrences fact (needed always x.conds)) unaries) i 0 (let long = length-map unaries (λ x. occurrences fact (needed always x.conds)) in omega (arith, long, le)))
-
--- no lists
-pub none_there : (facts fact : ℕ) → row_at {X = ℕ} (replicate facts []) fact ≡ []
-none_there zero fact = refl
-none_there (suc facts) zero = refl
-none_there (suc facts) (suc fact) = none_there facts fact
 
 -- facts of unary operators are there
 pub gives_below : (n : ℕ) (unaries : List Unary) → list_all (is_unary_below n) unaries ≡ true → are_below n (map (λ u. u.gives) unaries) ≡ true
@@ -97,17 +83,8 @@ gives_below n (u ∷ unaries) all =
     let here = both (list_all (is_below n) u.conds) (is_below n u.gives) parts.0 in
     rw here.1 (gives_below n unaries parts.1)
 
--- the conditions of one
-pub conds_at : (n : ℕ) (unaries : List Unary) (i : ℕ) (u : Unary) (conds : List ℕ) → list_all (is_unary_below n) unaries ≡ true → i < length unaries → u ≡ get_or unaries i u → conds ≡ u.conds → are_below n conds ≡ true
-conds_at n [] i u conds all lt at shown = absurd (omega arith)
-conds_at n (x ∷ unaries) zero u conds all lt at shown = rw (shown, at) (both (list_all (is_below n) x.conds) (is_below n x.gives) (both (is_unary_below n x) (list_all (is_unary_below n) unaries) all).0).0
-conds_at n (x ∷ unaries) (suc i) u conds all lt at shown = conds_at n unaries i u conds (both (is_unary_below n x) (list_all (is_unary_below n) unaries) all).1 (omega arith) at shown
-
-pub below_get : (n : ℕ) (facts : List ℕ) (i x : ℕ) → are_below n facts ≡ true → slice_get facts i ≡ Some x → x < n
-below_get n facts i x all at = ltb-true x n (list_all_get (is_below n) facts i x all at)
-
 pub below_at : (n : ℕ) (facts : List ℕ) (i x : ℕ) → are_below n facts ≡ true → i < length facts → x ≡ get_or facts i 0 → x < n
-below_at n facts i x all lt at = below_get n facts i x all (slice_get_read facts (length facts) i x refl lt (at ∙ get_or_default facts i 0 x lt))
+below_at n facts i x all lt at = ltb-true x n (list_all_get (is_below n) facts i x all (slice_get_read facts (length facts) i x refl lt (at ∙ get_or_default facts i 0 x lt)))
 
 -- a list that was written whole
 pub written_back : {X : Type 0} (len : ℕ) (new old : List X) → length new ≡ len → length old ≡ len → take len (new ++ drop (length new) old) ≡ new
@@ -138,5 +115,5 @@ free_of_needs unaries always row below needs i u at = needed_at unaries always a
         omega arith
 
     by_conds : (conds : List ℕ) → list_all (is_below always) conds ≡ true → occurrences always (needed always conds) ≡ 1 - length conds
-    by_conds [] all = ap (λ (b : Bool). one_if b + 0) (itself always)
+    by_conds [] all = ap (λ (b : Bool). one_if b + 0) (eq-eqb always always refl)
     by_conds (c ∷ conds) all = let none = none_above (c ∷ conds) all in omega arith

@@ -1,239 +1,188 @@
--- One fact after the other is settled, or passed over.
-use Rattle.std.proofs.Common.{◌≡◌, ◌≢◌, ◌∙◌, sym, ap, subst, refl, ℕ, zero, suc, ◌+◌, ◌*◌, ◌<◌, ◌≤◌, ◌⊎◌, inl, inr, List, [], ◌∷◌, ◌++◌, length, get_or, min, Bool, true, false, nat_eq, nat_lt, nat_le, not, ◌&&◌, ◌||◌, if◌then◌else◌, arith, Option, Some, None, slice_get, slice_set, get_or-set_other, get_or-set_same, append_assoc, max, take}
-use Rattle.std.proofs.lemmas.Bool.{cases_lt, eqb-true, le-leb, or_cases, lt-leb, ltb-true}
+-- One fact after the other is settled, or passed over, and what is reached costs what it does by the rounds.
+use Rattle.std.proofs.Common.{◌≡◌, ◌≢◌, ◌∙◌, sym, ap, subst, refl, ℕ, ◌+◌, ◌*◌, ◌<◌, ◌≤◌, ◌⊎◌, inl, inr, List, [], ◌∷◌, ◌++◌, length, get_or, min, Bool, true, false, nat_eq, nat_le, not, ◌&&◌, ◌||◌, if◌then◌else◌, arith, Option, Some, None, slice_get, slice_set, get_or-set_other, get_or-set_same, append_assoc, max, take, zero, suc, nat_lt}
+use Rattle.std.proofs.Math.Bool.{or_assoc, or-false, or-true, and-true}
+use Rattle.std.proofs.lemmas.Bool.{eq-eqb, and_right, or_parts, lt-ltb, cases_lt, eqb-true, le-leb, or_cases, lt-leb, ltb-true, false_from_ne_true, leb-true, leb-false}
 use Rattle.std.proofs.lemmas.List.{length-set, set_past, map-append, append-nil, set-get_or, take_more, take_all, get_or-map, length-map}
-use Rattle.std.proofs.lemmas.List.Folds.{list_any-append, list_any_more, list_all-append}
-use Rattle.std.proofs.lemmas.List.Sums.{sum_by-set}
+use Rattle.std.proofs.lemmas.List.Folds.{list_any-append, list_any_more}
+use Rattle.std.proofs.lemmas.List.Sums.{sum_by-set, count_by-le-length}
 use Rattle.cost_queue.specs.Occurrences.{one_if, occurrences}
-use Rattle.cost_queue.specs.Queues.{price_of, IsTaken}
+use Rattle.cost_queue.specs.Queues.{price_of, IsTaken, IsIdle}
 use Rattle.cost_queue.specs.Laws.{taken_fewer, waiting_within, there}
 use Rattle.cost_queue.specs.declared.entry.Entry.{Entry}
-use Rattle.relaxed_task.specs.Elements.{places, join}
-use Rattle.relaxed_task.specs.Numbers.{is_among, is_below}
+use Rattle.relaxed_task.specs.Elements.{places, denied}
+use Rattle.relaxed_task.specs.NumberLaws.{weaker}
+use Rattle.relaxed_task.specs.PlanLaws.{all_has}
+use Rattle.relaxed_task.specs.Numbers.{is_among, is_below, over_numbers}
 use Rattle.relaxed_task.specs.declared.unary.Unary.{Unary}
 use Rattle.h_add.specs.declared.network.Open.{Open}
-use Rattle.h_add.specs.Settlements.{Settlement, cost_at, is_settled, is_reached, is_left_out, open_at, unsettled, given_at, there_at}
-use Rattle.h_add.specs.UnderWay.{unreached, paid, IsCounted, IsWaiting, IsWanted, HasSettled, IsUnderWay, left_to_do, IsFrom, HasCounted, IsSettling, IsLater, IsFresh, HasMarked}
-use Rattle.h_add.proofs.Reaching.{reached_small, unsettled_not, unreached_less, paid_more, or_false, reached_same, all_reached, and_true, or_true}
+use Rattle.h_add.specs.UnderWay.{Settlement, cost_at, is_settled, is_reached, is_left_out, open_at, unsettled, given_at, there_at, one_open, share, summed, IsCounted, IsWaiting, IsUnderWay, left_to_do, IsFrom, HasCounted, IsSettling, IsLater, IsFresh, HasMarked, IsWanted, HasSettled, AreSettled}
+use Rattle.h_add.proofs.Counting.{none_counted, reached_if, unsettled_not, sum_changed, reached_same, all_reached, There, unary_there, finite_is, infinite_is, reached_small, price_sum}
 use Rattle.std.specs.List.{list_all}
 use Rattle.std.proofs.Math.Path.{fun_ext}
 use Rattle.std.proofs.lemmas.Option.{slice_get_within, get_or_from_slice_get}
 use Rattle.lama_num.specs.Lists.{both}
-use Rattle.h_add.specs.ByNumber.{IsInOrder, price}
-use Rattle.h_add.specs.Orders.{chosen, given_by}
+use Rattle.h_add.specs.ByNumber.{IsInOrder, price, is_started, add_round, IsClosed, AreBest, IsBest, start_facts, IsAdd}
+use Rattle.h_add.specs.Orders.{chosen, given_by, are_places, IsOrder}
 use Rattle.h_add.specs.Laws.{chosen_grows}
 use Rattle.h_add.specs.Networks.{needed, IsNeededBy, AreFree, open_at_start}
-use Rattle.h_add.proofs.Counting.{unary_there}
-use Rattle.h_add.proofs.Growing.{needed_at}
+use Rattle.h_add.proofs.Growing.{needed_at, written_back}
+use Rattle.lama_num.specs.declared.estimates.Estimate.{Estimate}
+use Rattle.lama_num.specs.declared.estimates.Estimate.TheVariants.{Finite, Infinite}
+use Rattle.relaxed_task.specs.CostLaws.{price_at_most, price_attained, sum_capped}
+use Rattle.relaxed_task.specs.EstimateLaws.{at_most_self, at_most_trans, at_most_infinite, both_at_least, IsCapped, at_most_both, least_left, least_right, plus_left, plus_right}
+use Rattle.relaxed_task.specs.Estimates.{least, IsAtMost, is_finite, IsLeast}
+use Rattle.relaxed_task.specs.Relaxing.{least_price, sum_of as total}
+use Rattle.lama_num.specs.Estimates.{estimate_sum}
+use Rattle.h_add.specs.Values.{estimate_of, value_at, IsEvaluatedByNumber}
+use Rattle.sas_task.specs.declared.contents.CostKind.{CostKind}
+use Rattle.sas_task.specs.declared.contents.Parts.{Parts}
+use Rattle.relaxed_task.specs.declared.relaxation.Lists.{Lists}
+use Rattle.relaxed_task.specs.Relaxations.{IsRelaxed}
 
 -- a fact is settled at a cost, while some number waits no more
 abbrev pub after : Settlement → ℕ → ℕ → List (Option ℕ) → List ℕ → Settlement
 after t fact cost waiting order = record { costs = slice_set t.costs fact cost; settled = slice_set t.settled fact true; opens = t.opens; waiting = waiting; order = order }
 
--- what is reached after a fact was settled
-pub record Reaches (t : Settlement) (fact cost : ℕ) (waiting : List (Option ℕ)) (order : List ℕ) : Type 0 where
-  pub cost_is : cost_at (after t fact cost waiting order) fact ≡ cost
-  pub cost_there : (other : ℕ) → other ≢ fact → cost_at (after t fact cost waiting order) other ≡ cost_at t other
-  pub settled_there : (other : ℕ) → other ≢ fact → is_settled (after t fact cost waiting order) other ≡ is_settled t other
-  pub settled_now : is_settled (after t fact cost waiting order) fact ≡ true
-  pub reached : is_reached (after t fact cost waiting order) fact ≡ true
-  pub kept : is_left_out (after t fact cost waiting order) fact ≡ false
-  pub reached_there : (other : ℕ) → other ≢ fact → is_reached (after t fact cost waiting order) other ≡ is_reached t other
-  pub kept_there : (other : ℕ) → other ≢ fact → is_left_out (after t fact cost waiting order) other ≡ is_left_out t other
+-- a flag more
+pub flagged : (flags : List Bool) (fact f : ℕ) → fact < length flags → get_or (slice_set flags fact true) f false ≡ (get_or flags f false || nat_eq f fact)
+flagged flags fact f lt = elim (places f fact) [
+  | inl here ↦ rw (here.1, here.0) (get_or-set_same flags fact true false lt ∙ sym (or-true (get_or flags fact false)))
+  | inr there ↦ rw there.1 (get_or-set_other flags fact f true false there.0 ∙ sym (or-false (get_or flags f false)))
+]
 
-pub reaches : (t : Settlement) (fact cost : ℕ) (waiting : List (Option ℕ)) (order : List ℕ) → fact < length t.costs → fact < length t.settled → cost ≤ 1000000000 → Reaches t fact cost waiting order
-reaches t fact cost waiting order within in_flags small =
-    let cost_is : cost_at (after t fact cost waiting order) fact ≡ cost = get_or-set_same t.costs fact cost 4294967295 within in
-    let settled_now : is_settled (after t fact cost waiting order) fact ≡ true = get_or-set_same t.settled fact true false in_flags in
-    let little : nat_le (cost_at (after t fact cost waiting order) fact) 1000000000 ≡ true = ap (λ (n : ℕ). nat_le n 1000000000) cost_is ∙ le-leb cost 1000000000 small in
-    record {
-      cost_is = cost_is;
-      cost_there = λ other ne. get_or-set_other t.costs fact other cost 4294967295 ne;
-      settled_there = λ other ne. get_or-set_other t.settled fact other true false ne;
-      settled_now = settled_now;
-      reached = rw (settled_now, little) refl;
-      kept = rw (settled_now, little) refl;
-      reached_there = λ other ne. ap (λ (b : Bool). b && nat_le (cost_at (after t fact cost waiting order) other) 1000000000) (get_or-set_other t.settled fact other true false ne) ∙ ap (λ (n : ℕ). is_settled t other && nat_le n 1000000000) (get_or-set_other t.costs fact other cost 4294967295 ne);
-      kept_there = λ other ne. ap (λ (b : Bool). b && not (nat_le (cost_at (after t fact cost waiting order) other) 1000000000)) (get_or-set_other t.settled fact other true false ne) ∙ ap (λ (n : ℕ). is_settled t other && not (nat_le n 1000000000)) (get_or-set_other t.costs fact other cost 4294967295 ne);
-    }
+-- A fact that isn't settled, is settled at a cost.
+module _ (t : Settlement) (fact cost : ℕ) (waiting : List (Option ℕ)) (order : List ℕ) (within : fact < length t.costs) (in_flags : fact < length t.settled) (new : is_settled t fact ≡ false) (small : cost ≤ 1000000000) where
+  abbrev next : Settlement
+  next = after t fact cost waiting order
 
--- A fact that isn't settled, and costs no less than what is settled and no more than what waits, is settled: those that need it have to count it.
-pub settle_way : (unaries : List Unary) (level : ℕ) (t : Settlement) (fact cost : ℕ) (waiting : List (Option ℕ)) (order row : List ℕ) → fact < length t.costs → fact < length t.settled → is_settled t fact ≡ false → cost ≤ cost_at t fact → level ≤ cost → cost ≤ 1000000000 →
-    ((place price : ℕ) → price_of waiting place ≡ Some price → (price_of t.waiting place ≡ Some price) × (cost ≤ price)) →
-    ((place : ℕ) (u : Unary) → slice_get unaries place ≡ Some u → u.gives ≢ fact → (price : ℕ) → price_of t.waiting place ≡ Some price → price_of waiting place ≡ Some price) →
-    ((place : ℕ) → is_among order place ≡ true → (is_among t.order place ≡ true) ⊎ HasSettled unaries (after t fact cost waiting order) place) →
-    ((place : ℕ) (u : Unary) → slice_get unaries place ≡ Some u → occurrences place row ≡ occurrences fact u.conds) →
-    IsUnderWay unaries level [] t → IsUnderWay unaries cost row (after t fact cost waiting order)
-settle_way unaries level t fact cost waiting order row within in_flags new cheap above small sub still ordered needed way = record {
-  level_small = small;
-  opens_long = way.opens_long;
-  each = each;
-  waits = λ place price at. (let was = sub place price at in let before = way.waits place price was.0 in record { none_open = before.none_open; price_is = before.price_is; above = was.1 });
-  wanted = λ other fresh little. wanted other fresh little (places other fact);
-  low = λ other is. low other is (places other fact);
-  settled_by = λ place among. by_order place (ordered place among);
-}
-  where
-    r : Reaches t fact cost waiting order
-    r = reaches t fact cost waiting order within in_flags small
+  cost_is : cost_at next fact ≡ cost
+  cost_is = get_or-set_same t.costs fact cost 4294967295 within
 
-    was_not : is_reached t fact ≡ false
-    was_not = (unsettled_not t fact new).0
+  pub cost_there : (f : ℕ) → f ≢ fact → cost_at next f ≡ cost_at t f
+  cost_there f ne = get_or-set_other t.costs fact f cost 4294967295 ne
 
-    less : (other : ℕ) → cost_at (after t fact cost waiting order) other ≤ cost_at t other
-    less other = by_place (places other fact)
-      where
-        by_place : ((other ≡ fact) × (nat_eq other fact ≡ true)) ⊎ ((other ≢ fact) × (nat_eq other fact ≡ false)) → cost_at (after t fact cost waiting order) other ≤ cost_at t other
-        by_place (inl here) =
-            let is = r.cost_is in
-            let le : cost_at (after t fact cost waiting order) fact ≤ cost_at t fact = omega arith in
-            subst (λ (f : ℕ). cost_at (after t fact cost waiting order) f ≤ cost_at t f) (sym here.0) le
-        by_place (inr there) = let same = r.cost_there other there.0 in omega arith
+  settled_is : is_settled next fact ≡ true
+  settled_is = get_or-set_same t.settled fact true false in_flags
 
-    kept_was : (other : ℕ) → is_left_out (after t fact cost waiting order) other ≡ false → is_left_out t other ≡ false
-    kept_was other kept = by_place (places other fact)
-      where
-        by_place : ((other ≡ fact) × (nat_eq other fact ≡ true)) ⊎ ((other ≢ fact) × (nat_eq other fact ≡ false)) → is_left_out t other ≡ false
-        by_place (inl here) = ap (is_left_out t) here.0 ∙ (unsettled_not t fact new).1
-        by_place (inr there) = sym (r.kept_there other there.0) ∙ kept
+  settled_there : (f : ℕ) → f ≢ fact → is_settled next f ≡ is_settled t f
+  settled_there f ne = get_or-set_other t.settled fact f true false ne
 
-    each : (place : ℕ) (u : Unary) → slice_get unaries place ≡ Some u → IsCounted (after t fact cost waiting order) cost row place u
-    each place u at =
-        let was = way.each place u at in
+  little : nat_le (cost_at next fact) 1000000000 ≡ true
+  little = ap (λ (n : ℕ). nat_le n 1000000000) cost_is ∙ le-leb cost 1000000000 small
+
+  reached_is : is_reached next fact ≡ true
+  reached_is = rw (settled_is, little) refl
+
+  reached_there : (f : ℕ) → f ≢ fact → is_reached next f ≡ is_reached t f
+  reached_there f ne = rw (settled_there f ne, cost_there f ne) refl
+
+  pub kept : (f : ℕ) → is_left_out next f ≡ is_left_out t f
+  kept f = elim (places f fact) [
+    | inl here ↦ rw here.0 (rw (settled_is, little, new) refl)
+    | inr there ↦ rw (settled_there f there.0, cost_there f there.0) refl
+  ]
+
+  -- It costs no less than what is settled and no more than what waits: those that need it have to count it.
+  pub settle_way : (unaries : List Unary) (level : ℕ) (row : List ℕ) → cost ≤ cost_at t fact → level ≤ cost →
+      ((place price : ℕ) → price_of waiting place ≡ Some price → (price_of t.waiting place ≡ Some price) × (cost ≤ price)) →
+      ((place : ℕ) (u : Unary) → slice_get unaries place ≡ Some u → u.gives ≢ fact → (price : ℕ) → price_of t.waiting place ≡ Some price → price_of waiting place ≡ Some price) →
+      ((place : ℕ) → is_among order place ≡ true → (is_among t.order place ≡ true) ⊎ ((u : Unary) × (slice_get unaries place ≡ Some u) × ((open_at t place).count ≡ 0) × (fact ≡ u.gives) × (cost ≡ (open_at t place).sum))) →
+      ((place : ℕ) (u : Unary) → slice_get unaries place ≡ Some u → occurrences place row ≡ occurrences fact u.conds) →
+      IsUnderWay unaries level [] t → IsUnderWay unaries cost row next
+  settle_way unaries level row cheap above sub still ordered needed way = record {
+    level_small = small;
+    opens_long = way.opens_long;
+    each = λ place u at.
+        (let was = way.each place u at in
         let count_was = was.count in
         let sum_was = was.sum in
         let as_often = needed place u at in
-        let fewer = unreached_less (is_reached t) (is_reached (after t fact cost waiting order)) fact u.conds was_not r.reached r.reached_there in
-        let more = paid_more (is_reached t) (is_reached (after t fact cost waiting order)) (cost_at t) (cost_at (after t fact cost waiting order)) fact u.conds was_not r.reached r.reached_there r.cost_there in
-        let times : occurrences fact u.conds * cost_at (after t fact cost waiting order) fact ≡ occurrences place row * cost = ap (λ (n : ℕ). occurrences fact u.conds * n) r.cost_is ∙ ap (λ (n : ℕ). n * cost) (sym as_often) in
+        let fewer = sum_changed (one_open t) (one_open next) fact 1 0 u.conds (rw (unsettled_not t fact new).0 refl) (rw reached_is refl) (λ c ne. ap (λ (b : Bool). one_if (not b)) (reached_there c ne)) in
+        let more = sum_changed (share t) (share next) fact 0 cost u.conds (rw (unsettled_not t fact new).0 refl) (rw reached_is cost_is) (λ c ne. rw (reached_there c ne, cost_there c ne) refl) in
+        let times = ap (λ (n : ℕ). n * cost) as_often in
         record {
           count = omega (arith, count_was, fewer, as_often);
           sum = omega (arith, sum_was, more, times);
           small = was.small;
-          offered = λ none kept. (let le = was.offered none (kept_was u.gives kept) in let down = less u.gives in omega (arith, le, down));
-        }
-
-    wanted : (other : ℕ) → is_settled (after t fact cost waiting order) other ≡ false → cost_at (after t fact cost waiting order) other ≤ 1000000000 → ((other ≡ fact) × (nat_eq other fact ≡ true)) ⊎ ((other ≢ fact) × (nat_eq other fact ≡ false)) →
-        IsWanted unaries (after t fact cost waiting order) other
-    wanted other fresh little (inl here) = let k : true ≡ false = sym r.settled_now ∙ (ap (is_settled (after t fact cost waiting order)) (sym here.0) ∙ fresh) in absurd cc
-    wanted other fresh little (inr there) =
-        let same = r.cost_there other there.0 in
-        let was = way.wanted other (sym (r.settled_there other there.0) ∙ fresh) (omega arith) in
-        let now : price_of waiting was.place ≡ Some (cost_at t other) = still was.place was.unary was.at (λ e. there.0 (sym was.gives ∙ e)) (cost_at t other) was.waits in
-        record { place = was.place; unary = was.unary; at = was.at; gives = was.gives; waits = now ∙ ap (λ (n : ℕ). Some n) (sym same) }
-
-    low : (other : ℕ) → is_reached (after t fact cost waiting order) other ≡ true → ((other ≡ fact) × (nat_eq other fact ≡ true)) ⊎ ((other ≢ fact) × (nat_eq other fact ≡ false)) → cost_at (after t fact cost waiting order) other ≤ cost
-    low other is (inl here) =
-        let at_fact = r.cost_is in
-        let le : cost_at (after t fact cost waiting order) fact ≤ cost = omega arith in
-        subst (λ (f : ℕ). cost_at (after t fact cost waiting order) f ≤ cost) (sym here.0) le
-    low other is (inr there) =
-        let same = r.cost_there other there.0 in
-        let le = way.low other (sym (r.reached_there other there.0) ∙ is) in
-        omega arith
-
-    by_order : (place : ℕ) → (is_among t.order place ≡ true) ⊎ HasSettled unaries (after t fact cost waiting order) place → HasSettled unaries (after t fact cost waiting order) place
-    by_order place (inr is) = is
-    by_order place (inl among) =
-        let was = way.settled_by place among in
-        let ne : was.unary.gives ≢ fact = λ e. (let k : true ≡ false = sym was.reached ∙ (ap (is_reached t) e ∙ was_not) in absurd cc) in
-        record {
-          unary = was.unary;
-          at = was.at;
-          none_open = was.none_open;
-          reached = r.reached_there was.unary.gives ne ∙ was.reached;
-          pays = r.cost_there was.unary.gives ne ∙ was.pays;
-        }
+          offered = λ none stays. (let le = was.offered none (sym (kept u.gives) ∙ stays) in let down = less u.gives in omega (arith, le, down));
+        });
+    waits = λ place price at. (let was = sub place price at in let before = way.waits place price was.0 in record { none_open = before.none_open; price_is = before.price_is; above = was.1 });
+    wanted = λ f fresh low. elim (places f fact) [
+      | inl here ↦ let k : true ≡ false = sym settled_is ∙ (rw here.0 at fresh) in absurd cc
+      | inr there ↦
+          let same = cost_there f there.0 in
+          let was = way.wanted f (sym (settled_there f there.0) ∙ fresh) (omega arith) in
+          record { place = was.place; unary = was.unary; at = was.at; gives = was.gives; waits = still was.place was.unary was.at (λ e. there.0 (sym was.gives ∙ e)) (cost_at t f) was.waits ∙ ap (λ (n : ℕ). Some n) (sym same) }
+    ];
+    low = λ f is. elim (places f fact) [
+      | inl here ↦ rw here.0 (let same = cost_is in omega arith)
+      | inr there ↦ let same = cost_there f there.0 in let le = way.low f (sym (reached_there f there.0) ∙ is) in omega arith
+    ];
+    settled_by = λ place among. elim (ordered place among) [
+      | inl before ↦
+          let was = way.settled_by place before in
+          let ne : was.unary.gives ≢ fact = λ e. (let k : true ≡ false = sym was.reached ∙ (ap (is_reached t) e ∙ (unsettled_not t fact new).0) in absurd cc) in
+          record { unary = was.unary; at = was.at; none_open = was.none_open; reached = reached_there was.unary.gives ne ∙ was.reached; pays = cost_there was.unary.gives ne ∙ was.pays }
+      | inr last ↦ record { unary = last.0; at = last.1; none_open = last.2; reached = rw (← last.3) reached_is; pays = rw (← last.3) (cost_is ∙ last.4) }
+    ];
+  }
+    where
+      less : (f : ℕ) → cost_at next f ≤ cost_at t f
+      less f = elim (places f fact) [
+        | inl here ↦ rw here.0 (let same = cost_is in omega arith)
+        | inr there ↦ let same = cost_there f there.0 in omega arith
+      ]
 
 -- what a unary operator that is taken asks for is what its fact costs
-pub record Pays (unaries : List Unary) (level : ℕ) (t : Settlement) (entry : Entry) (u : Unary) : Type 0 where
+pub record Pays (level : ℕ) (t : Settlement) (entry : Entry) (fact : ℕ) : Type 0 where
   pub none_open : (open_at t entry.number).count ≡ 0
   pub price_is : entry.price ≡ (open_at t entry.number).sum
   pub above : level ≤ entry.price
   pub small : entry.price ≤ 1000000000
-  pub cost_is : cost_at t u.gives ≡ entry.price
+  pub cost_is : cost_at t fact ≡ entry.price
 
-pub taken_pays : (unaries : List Unary) (level : ℕ) (t : Settlement) (waiting : List (Option ℕ)) (entry : Entry) (u : Unary) → slice_get unaries entry.number ≡ Some u → IsTaken t.waiting waiting entry → is_settled t u.gives ≡ false → IsUnderWay unaries level [] t → Pays unaries level t entry u
-taken_pays unaries level t waiting entry u at taken new way =
+pub taken_pays : (unaries : List Unary) (level : ℕ) (t : Settlement) (waiting : List (Option ℕ)) (entry : Entry) (u : Unary) (fact : ℕ) → slice_get unaries entry.number ≡ Some u → fact ≡ u.gives → IsTaken t.waiting waiting entry → is_settled t fact ≡ false → IsUnderWay unaries level [] t → Pays level t entry fact
+taken_pays unaries level t waiting entry u fact at gives taken new way =
     let waits = way.waits entry.number entry.price taken.waited in
     let counted = way.each entry.number u at in
     let small = counted.small in
     let price_is = waits.price_is in
-    let le = counted.offered waits.none_open (unsettled_not t u.gives new).1 in
-    let wanted = way.wanted u.gives new (omega (arith, small, le)) in
-    let least = taken.least wanted.place (cost_at t u.gives) wanted.waits in
+    let le : cost_at t fact ≤ (open_at t entry.number).sum = rw gives (counted.offered waits.none_open (unsettled_not t u.gives (rw gives at new)).1) in
+    let wanted = way.wanted fact new (omega (arith, small, le)) in
+    let least = taken.least wanted.place (cost_at t fact) wanted.waits in
     record { none_open = waits.none_open; price_is = price_is; above = waits.above; small = omega (arith, small, price_is); cost_is = omega (arith, le, least, price_is) }
 
 -- the waiting ones without the one that was taken
 pub taken_sub : (old new : List (Option ℕ)) (entry : Entry) → IsTaken old new entry → (place price : ℕ) → price_of new place ≡ Some price → (price_of old place ≡ Some price) × (entry.price ≤ price)
-taken_sub old new entry taken place price at = by_place (places place entry.number)
+taken_sub old new entry taken place price at = elim (places place entry.number) [
+  | inl here ↦ let k : None ≡ Some price = sym (get_or-set_same old entry.number None None (there old entry.number entry.price taken.waited)) ∙ (rw here.0 at now) in absurd cc
+  | inr other ↦ let was = sym (get_or-set_other old entry.number place None None other.0) ∙ now in (was, taken.least place price was)
+]
   where
     now : price_of (slice_set old entry.number None) place ≡ Some price
     now = ap (λ (xs : List (Option ℕ)). price_of xs place) (sym taken.rest) ∙ at
 
-    by_place : ((place ≡ entry.number) × (nat_eq place entry.number ≡ true)) ⊎ ((place ≢ entry.number) × (nat_eq place entry.number ≡ false)) → (price_of old place ≡ Some price) × (entry.price ≤ price)
-    by_place (inl here) =
-        let k : None ≡ Some price = sym (none_set old entry.number) ∙ (ap (price_of (slice_set old entry.number None)) (sym here.0) ∙ now) in
-        absurd cc
-      where
-        none_set : (xs : List (Option ℕ)) (i : ℕ) → price_of (slice_set xs i None) i ≡ None
-        none_set [] i = refl
-        none_set (x ∷ xs) zero = refl
-        none_set (x ∷ xs) (suc i) = none_set xs i
-    by_place (inr there) =
-        let was : price_of old place ≡ Some price = sym (get_or-set_other old entry.number place None None there.0) ∙ now in
-        (was, taken.least place price was)
-
-pub taken_still : (old new : List (Option ℕ)) (entry : Entry) (place price : ℕ) → IsTaken old new entry → place ≢ entry.number → price_of old place ≡ Some price → price_of new place ≡ Some price
-taken_still old new entry place price taken ne at = ap (λ (xs : List (Option ℕ)). price_of xs place) taken.rest ∙ (get_or-set_other old entry.number place None None ne ∙ at)
-
-same_unary : (unaries : List Unary) (place other : ℕ) (u x : Unary) → slice_get unaries place ≡ Some u → slice_get unaries other ≡ Some x → place ≡ other → x ≡ u
-same_unary unaries place other u x at at_x e = let k : Some x ≡ Some u = sym at_x ∙ (ap (slice_get unaries) (sym e) ∙ at) in cc
-
-pub among_last : (xs : List ℕ) (x y : ℕ) → is_among (xs ++ x ∷ []) y ≡ true → (is_among xs y ≡ true) ⊎ (y ≡ x)
-among_last xs x y is = elim (or_cases (is_among xs y) (nat_eq y x || false) (sym (list_any-append (nat_eq y) xs (x ∷ [])) ∙ is)) [
-  | inl was ↦ inl was
-  | inr last ↦ inr (eqb-true y x (sym (or_false (nat_eq y x)) ∙ last))
-]
-
--- The unary operator that is taken settles its fact.
-pub given_way : (unaries : List Unary) (level : ℕ) (t : Settlement) (waiting : List (Option ℕ)) (entry : Entry) (u : Unary) (row : List ℕ) → slice_get unaries entry.number ≡ Some u → u.gives < length t.costs → u.gives < length t.settled → IsTaken t.waiting waiting entry → is_settled t u.gives ≡ false →
-    ((place : ℕ) (x : Unary) → slice_get unaries place ≡ Some x → occurrences place row ≡ occurrences u.gives x.conds) → IsUnderWay unaries level [] t →
-    IsUnderWay unaries entry.price row (after t u.gives entry.price waiting (t.order ++ entry.number ∷ []))
-given_way unaries level t waiting entry u row at within in_flags taken new needed way =
-    settle_way unaries level t u.gives entry.price waiting (t.order ++ entry.number ∷ []) row within in_flags new cost_here p.above p.small (taken_sub t.waiting waiting entry taken)
-    (λ place x at_x ne price waits. taken_still t.waiting waiting entry place price taken (λ e. ne (ap (λ (y : Unary). y.gives) (same_unary unaries entry.number place u x at at_x (sym e)))) waits)
-    (λ place among. by_last place (among_last t.order entry.number place among)) needed way
+-- one that gives another fact waits still
+pub taken_still : (unaries : List Unary) (old new : List (Option ℕ)) (entry : Entry) (u : Unary) (fact : ℕ) → slice_get unaries entry.number ≡ Some u → fact ≡ u.gives → IsTaken old new entry →
+    (place : ℕ) (x : Unary) → slice_get unaries place ≡ Some x → x.gives ≢ fact → (price : ℕ) → price_of old place ≡ Some price → price_of new place ≡ Some price
+taken_still unaries old new entry u fact at gives taken place x at_x ne price waits = ap (λ (xs : List (Option ℕ)). price_of xs place) taken.rest ∙ (get_or-set_other old entry.number place None None apart ∙ waits)
   where
-    p : Pays unaries level t entry u
-    p = taken_pays unaries level t waiting entry u at taken new way
-
-    cost_here : entry.price ≤ cost_at t u.gives
-    cost_here = let is = p.cost_is in omega arith
-
-    r : Reaches t u.gives entry.price waiting (t.order ++ entry.number ∷ [])
-    r = reaches t u.gives entry.price waiting (t.order ++ entry.number ∷ []) within in_flags p.small
-
-    by_last : (place : ℕ) → (is_among t.order place ≡ true) ⊎ (place ≡ entry.number) → (is_among t.order place ≡ true) ⊎ HasSettled unaries (after t u.gives entry.price waiting (t.order ++ entry.number ∷ [])) place
-    by_last place (inl among) = inl among
-    by_last place (inr same) =
-        let here : HasSettled unaries (after t u.gives entry.price waiting (t.order ++ entry.number ∷ [])) entry.number = record { unary = u; at = at; none_open = p.none_open; reached = r.reached; pays = r.cost_is ∙ p.price_is } in
-        inr (subst (λ (i : ℕ). HasSettled unaries (after t u.gives entry.price waiting (t.order ++ entry.number ∷ [])) i) (sym same) here)
+    apart : place ≢ entry.number
+    apart e = let k : Some x ≡ Some u = sym at_x ∙ (rw e at) in let same : x ≡ u = cc in ne (ap (λ (y : Unary). y.gives) same ∙ sym gives)
 
 -- One whose fact is settled already is passed over.
-pub passed_way : (unaries : List Unary) (level : ℕ) (t : Settlement) (waiting : List (Option ℕ)) (entry : Entry) (u : Unary) → slice_get unaries entry.number ≡ Some u → IsTaken t.waiting waiting entry → is_settled t u.gives ≡ true → IsUnderWay unaries level [] t →
+pub passed_way : (unaries : List Unary) (level : ℕ) (t : Settlement) (waiting : List (Option ℕ)) (entry : Entry) (u : Unary) (fact : ℕ) → slice_get unaries entry.number ≡ Some u → fact ≡ u.gives → IsTaken t.waiting waiting entry → is_settled t fact ≡ true → IsUnderWay unaries level [] t →
     IsUnderWay unaries entry.price [] (record t { waiting = waiting })
-passed_way unaries level t waiting entry u at taken old way = record {
+passed_way unaries level t waiting entry u fact at gives taken old way = record {
   level_small = let small = (way.each entry.number u at).small in let is = waits.price_is in omega arith;
   opens_long = way.opens_long;
   each = λ place x at_x. (let was = way.each place x at_x in let sum = was.sum in record { count = was.count; sum = omega (arith, sum); small = was.small; offered = was.offered });
   waits = λ place price now. (let was = taken_sub t.waiting waiting entry taken place price now in let before = way.waits place price was.0 in record { none_open = before.none_open; price_is = before.price_is; above = was.1 });
-  wanted = λ fact fresh small. (let was = way.wanted fact fresh small in
-      let ne : was.place ≢ entry.number = λ e. (let same = same_unary unaries entry.number was.place u was.unary at was.at (sym e) in
-      let gives : u.gives ≡ fact = ap (λ (y : Unary). y.gives) (sym same) ∙ was.gives in
-      let k : true ≡ false = sym old ∙ (ap (is_settled t) gives ∙ fresh) in absurd cc) in
-      record { place = was.place; unary = was.unary; at = was.at; gives = was.gives; waits = taken_still t.waiting waiting entry was.place (cost_at t fact) taken ne was.waits });
-  low = λ fact is. (let le = way.low fact is in let above = waits.above in omega arith);
+  wanted = λ f fresh small.
+      (let was = way.wanted f fresh small in
+      let ne : was.unary.gives ≢ fact = λ e. (let k : true ≡ false = sym old ∙ (ap (is_settled t) (sym e ∙ was.gives) ∙ fresh) in absurd cc) in
+      record { place = was.place; unary = was.unary; at = was.at; gives = was.gives; waits = taken_still unaries t.waiting waiting entry u fact at gives taken was.place was.unary was.at ne (cost_at t f) was.waits });
+  low = λ f is. (let le = way.low f is in let above = waits.above in omega arith);
   settled_by = λ place among. (let was = way.settled_by place among in record { unary = was.unary; at = was.at; none_open = was.none_open; reached = was.reached; pays = was.pays });
 }
   where
@@ -256,25 +205,8 @@ fewer_or_same flags fact = elim (cases_lt fact (length flags)) [
   | inr past ↦ rw (set_past flags fact true past) (omega arith)
 ]
 
-pub passed_less : (t now : Settlement) (entry : Entry) → IsTaken t.waiting now.waiting entry → now.settled ≡ t.settled → length now.waiting ≡ length t.waiting → left_to_do now < left_to_do t
-passed_less t now entry taken settled long =
-    let fewer = taken_fewer t.waiting now.waiting entry taken in
-    let same : unsettled now.settled * (length now.waiting + 1) ≡ unsettled t.settled * (length t.waiting + 1) = ap (λ (fs : List Bool). unsettled fs * (length now.waiting + 1)) settled ∙ ap (λ (n : ℕ). unsettled t.settled * (n + 1)) long in
-    omega (arith, fewer, same)
-
-pub settled_less : (t now : Settlement) (fact : ℕ) → fact < length t.settled → is_settled t fact ≡ false → now.settled ≡ slice_set t.settled fact true → length now.waiting ≡ length t.waiting → left_to_do now < left_to_do t
-settled_less t now fact lt new settled long =
-    let one = fewer_unsettled t.settled fact lt new in
-    let some = waiting_within now.waiting in
-    let here : unsettled t.settled * (length t.waiting + 1) ≡ unsettled now.settled * (length now.waiting + 1) + (length now.waiting + 1) =
-    ap (λ (n : ℕ). unsettled t.settled * (n + 1)) (sym long) ∙ (ap (λ (n : ℕ). n * (length now.waiting + 1)) (sym one ∙ ap (λ (fs : List Bool). unsettled fs + 1) (sym settled)) ∙ once (unsettled now.settled) (length now.waiting + 1)) in
-    omega (arith, some, here)
-  where
-    once : (a b : ℕ) → (a + 1) * b ≡ a * b + b
-    once a b = omega arith
-
-pub taken_long : (old new : List (Option ℕ)) (entry : Entry) → IsTaken old new entry → length new ≡ length old
-taken_long old new entry taken = ap length taken.rest ∙ length-set old entry.number None
+pub few_unsettled : (flags : List Bool) → unsettled flags ≤ length flags
+few_unsettled flags = count_by-le-length not flags
 
 -- one more in an order
 pub turned : (x : ℕ) (facts more : List ℕ) → is_among (facts ++ x ∷ more) ≡ is_among (x ∷ (facts ++ more))
@@ -297,89 +229,30 @@ order_grows facts (x ∷ list) u order conds new = (
       (subst (λ (p : ℕ → Bool). p u.gives ≡ false) (turned x.gives facts (given_by list)) new),
 )
 
-all_reached_had : (reached : ℕ → Bool) (had without conds : List ℕ) → ((fact : ℕ) → reached fact ≡ (is_among had fact && not (is_among without fact))) → list_all reached conds ≡ true → list_all (is_among had) conds ≡ true
-all_reached_had reached had without [] is all = refl
-all_reached_had reached had without (c ∷ conds) is all =
-    let parts = both (reached c) (list_all reached conds) all in
-    let here = both (is_among had c) (not (is_among without c)) (sym (is c) ∙ parts.0) in
-    join (is_among had c) (list_all (is_among had) conds) here.0 (all_reached_had reached had without conds is parts.1)
+-- what was there at first, and what the order gives
+abbrev pub gained : List Unary → List ℕ → List ℕ → List ℕ
+gained unaries had order = had ++ given_by (chosen unaries order)
 
--- What is reached after one fact more was settled: what was there at first and what the order gives have that fact more.
-pub from_settled : (unaries : List Unary) (without had more order : List ℕ) (t : Settlement) (fact cost : ℕ) (waiting : List (Option ℕ)) → fact < length t.costs → fact < length t.settled → is_settled t fact ≡ false → cost ≤ 1000000000 →
-    ((f : ℕ) → is_among (more ++ given_by (chosen unaries order)) f ≡ (is_among (had ++ given_by (chosen unaries t.order)) f || nat_eq f fact)) →
-    ((f : ℕ) → is_among more f ≡ true → (is_among had f ≡ true) ⊎ ((f ≡ fact) × (cost ≡ 0))) → IsInOrder more (chosen unaries order) → IsFrom unaries without had t → IsFrom unaries without more (after t fact cost waiting order)
-from_settled unaries without had more order t fact cost waiting within in_flags new small one_more only in_order from = record {
-  out = λ f. elim (places f fact) [
-    | inl here ↦ ap (is_left_out (after t fact cost waiting order)) here.0 ∙ (r.kept ∙ (sym not_out ∙ ap (is_among without) (sym here.0)))
-    | inr there ↦ r.kept_there f there.0 ∙ from.out f
-  ];
-  reached = λ f. elim (places f fact) [
-    | inl here ↦
-        let among = one_more f ∙ (ap (λ (b : Bool). is_among (had ++ given_by (chosen unaries t.order)) f || b) here.1 ∙ or_true (is_among (had ++ given_by (chosen unaries t.order)) f)) in
-        let kept : is_among without f ≡ false = ap (is_among without) here.0 ∙ not_out in
-        ap (is_reached (after t fact cost waiting order)) here.0 ∙ (r.reached ∙ rw (among, kept) refl)
-    | inr there ↦
-        let among = one_more f ∙ (ap (λ (b : Bool). is_among (had ++ given_by (chosen unaries t.order)) f || b) there.1 ∙ or_false (is_among (had ++ given_by (chosen unaries t.order)) f)) in
-        r.reached_there f there.0 ∙ (from.reached f ∙ ap (λ (b : Bool). b && not (is_among without f)) (sym among))
-  ];
-  first = λ f among stays. elim (only f among) [
-    | inl was ↦
-        let reached_was : is_reached t f ≡ true = from.reached f ∙ rw (list_any-append (nat_eq f) had (given_by (chosen unaries t.order)), was, stays) refl in
-        r.cost_there f (λ e. let k : true ≡ false = sym reached_was ∙ (ap (is_reached t) e ∙ (unsettled_not t fact new).0) in cc) ∙ from.first f was stays
-    | inr is ↦ ap (cost_at (after t fact cost waiting order)) is.0 ∙ (r.cost_is ∙ is.1)
-  ];
-  in_order = in_order;
-}
+-- what is left out is settled, but not reached
+pub from_reached : (unaries : List Unary) (without had : List ℕ) (t : Settlement) (fact : ℕ) → IsFrom unaries without had t → is_reached t fact ≡ (is_among (gained unaries had t.order) fact && not (is_among without fact))
+from_reached unaries without had t fact from = by_flags (is_settled t fact) (nat_le (cost_at t fact) 1000000000) (is_among without fact) (is_among (gained unaries had t.order) fact) (from.out fact) (from.settled fact)
   where
-    r : Reaches t fact cost waiting order
-    r = reaches t fact cost waiting order within in_flags small
+    by_flags : (a b w g : Bool) → (a && not b) ≡ w → a ≡ (w || g) → (a && b) ≡ (g && not w)
+    by_flags true true w g out is = rw (← out, ← (rw (← out) at is)) refl
+    by_flags true false w g out is = rw (← out) (sym (and_right g false refl))
+    by_flags false b w g out is = rw (← (rw (← out) at is)) refl
 
-    not_out : is_among without fact ≡ false
-    not_out = sym (from.out fact) ∙ (unsettled_not t fact new).1
-
--- a unary operator gave its fact
-pub from_given : (unaries : List Unary) (without had : List ℕ) (level : ℕ) (t : Settlement) (waiting : List (Option ℕ)) (entry : Entry) (u : Unary) → slice_get unaries entry.number ≡ Some u → u.gives < length t.costs → u.gives < length t.settled → IsTaken t.waiting waiting entry → is_settled t u.gives ≡ false →
-    IsUnderWay unaries level [] t → IsFrom unaries without had t → IsFrom unaries without had (after t u.gives entry.price waiting (t.order ++ entry.number ∷ []))
-from_given unaries without had level t waiting entry u at within in_flags taken new way from =
-    let p = taken_pays unaries level t waiting entry u at taken new way in
-    let count = (way.each entry.number u at).count in
-    let none = p.none_open in
-    let conds = all_reached (is_reached t) u.conds (omega (arith, count, none)) in
-    let grows = chosen_grows unaries t.order entry.number u at in
-    from_settled unaries without had had (t.order ++ entry.number ∷ []) t u.gives entry.price waiting within in_flags new p.small
-    (λ f. ap (λ (list : List Unary). is_among (had ++ given_by list) f) grows ∙ (split f ∙ ap (λ (b : Bool). is_among (had ++ given_by (chosen unaries t.order)) f || b) (or_false (nat_eq f u.gives)))) (λ f among. inl among)
-    (rw grows (order_grows had (chosen unaries t.order) u from.in_order (all_reached_had (is_reached t) (had ++ given_by (chosen unaries t.order)) without u.conds from.reached conds) fresh)) from
-  where
-    split : (f : ℕ) → is_among (had ++ given_by (chosen unaries t.order ++ u ∷ [])) f ≡ (is_among (had ++ given_by (chosen unaries t.order)) f || (nat_eq f u.gives || false))
-    split f =
-        ap (λ (xs : List ℕ). is_among xs f) (ap (λ (xs : List ℕ). had ++ xs) (map-append (λ (x : Unary). x.gives) (chosen unaries t.order) (u ∷ [])) ∙ sym (append_assoc had (given_by (chosen unaries t.order)) (u.gives ∷ [])))
-        ∙ list_any-append (nat_eq f) (had ++ given_by (chosen unaries t.order)) (u.gives ∷ [])
-
-    fresh : is_among (had ++ given_by (chosen unaries t.order)) u.gives ≡ false
-    fresh =
-        let not_out : is_among without u.gives ≡ false = sym (from.out u.gives) ∙ (unsettled_not t u.gives new).1 in
-        sym (and_true (is_among (had ++ given_by (chosen unaries t.order)) u.gives))
-        ∙ (ap (λ (b : Bool). is_among (had ++ given_by (chosen unaries t.order)) u.gives && not b) (sym not_out) ∙ (sym (from.reached u.gives) ∙ (unsettled_not t u.gives new).0))
+first_settled : (unaries : List Unary) (without had : List ℕ) (t : Settlement) (fact : ℕ) → is_among had fact ≡ true → IsFrom unaries without had t → is_settled t fact ≡ true
+first_settled unaries without had t fact among from = from.settled fact ∙ rw (list_any-append (nat_eq fact) had (given_by (chosen unaries t.order)), among) (or-true (is_among without fact))
 
 -- what is settled from a start, after a fact was counted
-pub from_counted : (unaries : List Unary) (without had : List ℕ) (t now : Settlement) → HasCounted t now → IsFrom unaries without had t → IsFrom unaries without had now
+from_counted : (unaries : List Unary) (without had : List ℕ) (t now : Settlement) → HasCounted t now → IsFrom unaries without had t → IsFrom unaries without had now
 from_counted unaries without had t now counted from = record {
-  out = λ fact. (same fact).1 ∙ from.out fact;
-  reached = λ fact. (same fact).0 ∙ (from.reached fact ∙ ap (λ (order : List ℕ). is_among (had ++ given_by (chosen unaries order)) fact && not (is_among without fact)) (sym counted.order));
-  first = λ fact among stays. counted.kept fact (settled fact among stays) ∙ from.first fact among stays;
-  in_order = subst (λ (order : List ℕ). IsInOrder had (chosen unaries order)) (sym counted.order) from.in_order;
+  out = λ fact. (reached_same t now counted.settled counted.kept fact).1 ∙ from.out fact;
+  settled = λ fact. rw (counted.settled, counted.order) (from.settled fact);
+  first = λ fact among stays. counted.kept fact (first_settled unaries without had t fact among from) ∙ from.first fact among stays;
+  in_order = rw counted.order from.in_order;
 }
-  where
-    same : (fact : ℕ) → (is_reached now fact ≡ is_reached t fact) × (is_left_out now fact ≡ is_left_out t fact)
-    same = reached_same t now counted.settled counted.kept
-
-    settled : (fact : ℕ) → is_among had fact ≡ true → is_among without fact ≡ false → is_settled t fact ≡ true
-    settled fact among stays =
-        let both_lists : is_among (had ++ given_by (chosen unaries t.order)) fact ≡ true = list_any-append (nat_eq fact) had (given_by (chosen unaries t.order)) ∙ ap (λ (b : Bool). b || is_among (given_by (chosen unaries t.order)) fact) among in
-        (reached_small t fact (from.reached fact ∙ rw (both_lists, stays) refl)).0
-
-pub from_passed : (unaries : List Unary) (without had : List ℕ) (t : Settlement) (waiting : List (Option ℕ)) → IsFrom unaries without had t → IsFrom unaries without had (record t { waiting = waiting })
-from_passed unaries without had t waiting from = record { out = from.out; reached = from.reached; first = from.first; in_order = from.in_order }
 
 pub taken_within : (unaries : List Unary) (t mid : Settlement) (entry : Entry) → IsTaken t.waiting mid.waiting entry → length t.waiting ≡ length t.opens → IsSettling unaries t → entry.number < length unaries
 taken_within unaries t mid entry taken long s = let lt = there t.waiting entry.number entry.price taken.waited in let opens = s.way.opens_long in omega arith
@@ -393,16 +266,10 @@ needed_same always fact [] lt = by_place (places fact always)
     by_place (inr other) = ap (λ (b : Bool). one_if b + 0) other.1 ∙ omega arith
 needed_same always fact (c ∷ conds) lt = refl
 
--- the state after a fact was given
-given_is : (t mid now : Settlement) (fact : ℕ) (entry : Entry) → mid ≡ record t { waiting = mid.waiting } → now ≡ given_at mid fact entry.number → slice_set t.costs fact entry.price ≡ t.costs → now ≡ after t fact entry.price mid.waiting (t.order ++ entry.number ∷ [])
-given_is t mid now fact entry mid_is now_is same =
-    now_is ∙ ap (λ (s : Settlement). given_at s fact entry.number) mid_is
-    ∙ ap (λ (costs : List ℕ). record { costs = costs; settled = slice_set t.settled fact true; opens = t.opens; waiting = mid.waiting; order = t.order ++ entry.number ∷ [] }) (sym same)
-
 settled_mid : (t mid : Settlement) (fact : ℕ) (b : Bool) → mid ≡ record t { waiting = mid.waiting } → is_settled mid fact ≡ b → is_settled t fact ≡ b
 settled_mid t mid fact b mid_is is = ap (λ (s : Settlement). is_settled s fact) (sym mid_is) ∙ is
 
--- it settles its fact
+-- A unary operator settles its fact.
 pub record IsGiven (unaries : List Unary) (t now : Settlement) (fact price : ℕ) (row : List ℕ) : Type 0 where
   pub way : IsUnderWay unaries price row now
   pub from : (without had : List ℕ) → IsFrom unaries without had t → IsFrom unaries without had now
@@ -415,26 +282,65 @@ pub record IsGiven (unaries : List Unary) (t now : Settlement) (fact price : ℕ
 pub step_given : (unaries : List Unary) (facts : ℕ) (t mid now : Settlement) (row : List ℕ) (fact : ℕ) (entry : Entry) → facts ≡ length t.costs → length t.settled ≡ length t.costs → length t.waiting ≡ length t.opens → mid ≡ record t { waiting = mid.waiting } →
     IsTaken t.waiting mid.waiting entry → ((u : Unary) → slice_get unaries entry.number ≡ Some u → fact ≡ u.gives) → fact < facts → is_settled mid fact ≡ false → now ≡ given_at mid fact entry.number → IsNeededBy unaries facts fact row → IsSettling unaries t →
     IsGiven unaries t now fact entry.price row
-step_given unaries facts t mid now row fact entry facts_is settled_long waiting_long mid_is taken gives below new now_is needs s =
-    let u = unary_there unaries entry.number (taken_within unaries t mid entry taken waiting_long s) in
-    let given : fact ≡ u.unary.gives = gives u.unary u.at in
-    let fresh : is_settled t u.unary.gives ≡ false = ap (is_settled t) (sym given) ∙ settled_mid t mid fact false mid_is new in
-    let pays = taken_pays unaries s.level t mid.waiting entry u.unary u.at taken fresh s.way in
-    let same : slice_set t.costs u.unary.gives entry.price ≡ t.costs = ap (λ (n : ℕ). slice_set t.costs u.unary.gives n) (sym pays.cost_is) ∙ set-get_or t.costs u.unary.gives 4294967295 in
-    let now_here : now ≡ after t u.unary.gives entry.price mid.waiting (t.order ++ entry.number ∷ []) =
-    given_is t mid now u.unary.gives entry mid_is (now_is ∙ ap (λ (f : ℕ). given_at mid f entry.number) given) same in
-    let within : u.unary.gives < length t.costs = omega (arith, given) in
-    let in_flags : u.unary.gives < length t.settled = omega (arith, given) in
-    let as_often : (place : ℕ) (x : Unary) → slice_get unaries place ≡ Some x → occurrences place row ≡ occurrences u.unary.gives x.conds =
-    λ place x at. needed_at unaries facts fact row needs place x at ∙ (needed_same facts fact x.conds below ∙ ap (λ (f : ℕ). occurrences f x.conds) given) in record {
-      way = subst (λ (z : Settlement). IsUnderWay unaries entry.price row z) (sym now_here) (given_way unaries s.level t mid.waiting entry u.unary row u.at within in_flags taken fresh as_often s.way);
-      from = λ without had from. subst (λ (z : Settlement). IsFrom unaries without had z) (sym now_here) (from_given unaries without had s.level t mid.waiting entry u.unary u.at within in_flags taken fresh s.way from);
-      new = settled_mid t mid fact false mid_is new;
-      within = omega arith;
-      settled = ap (λ (z : Settlement). z.settled) now_here ∙ ap (λ (f : ℕ). slice_set t.settled f true) (sym given);
-      costs_long = ap (λ (z : Settlement). length z.costs) now_here ∙ length-set t.costs u.unary.gives entry.price;
-      waiting_long = ap (λ (z : Settlement). length z.waiting) now_here ∙ taken_long t.waiting mid.waiting entry taken;
-    }
+step_given unaries facts t mid now row fact entry facts_is settled_long waiting_long mid_is taken gives below not_yet now_is needs s = rw now_here (record {
+  way = settle_way t fact entry.price mid.waiting order within in_flags new p.small unaries s.level row (let is = p.cost_is in omega arith) p.above (taken_sub t.waiting mid.waiting entry taken) (taken_still unaries t.waiting mid.waiting entry u.unary fact u.at given taken)
+      (λ place among. elim (or_cases (is_among t.order place) (nat_eq place entry.number || false) (sym (list_any-append (nat_eq place) t.order (entry.number ∷ [])) ∙ among)) [
+        | inl before ↦ inl before
+        | inr last ↦ let same = eqb-true place entry.number (sym (or-false (nat_eq place entry.number)) ∙ last) in rw same (inr (u.unary, u.at, p.none_open, given, p.price_is))
+      ]) (λ place x at. needed_at unaries facts fact row needs place x at ∙ needed_same facts fact x.conds below) s.way;
+  from = λ without had from. record {
+    out = λ f. kept t fact entry.price mid.waiting order within in_flags new p.small f ∙ from.out f;
+    settled = λ f. flagged t.settled fact f in_flags ∙ (ap (λ (b : Bool). b || nat_eq f fact) (from.settled f) ∙ (or_assoc (is_among without f) (is_among (gained unaries had t.order) f) (nat_eq f fact) ∙ ap (λ (b : Bool). is_among without f || b) (more had f)));
+    first = λ f among stays. cost_there t fact entry.price mid.waiting order within in_flags new p.small f (λ e. let k : true ≡ false = sym (first_settled unaries without had t f among from) ∙ (ap (is_settled t) e ∙ new) in cc) ∙ from.first f among stays;
+    in_order = rw grows (order_grows had (chosen unaries t.order) u.unary from.in_order (reached_had without had u.unary.conds from conds)
+        (rw given at (or_parts (is_among without fact) (is_among (gained unaries had t.order) fact) (sym (from.settled fact) ∙ new)).1));
+  };
+  new = new;
+  within = in_flags;
+  settled = refl;
+  costs_long = length-set t.costs fact entry.price;
+  waiting_long = ap length taken.rest ∙ length-set t.waiting entry.number None;
+})
+  where
+    order : List ℕ
+    order = t.order ++ entry.number ∷ []
+
+    u : There unaries entry.number
+    u = unary_there unaries entry.number (taken_within unaries t mid entry taken waiting_long s)
+
+    given : fact ≡ u.unary.gives
+    given = gives u.unary u.at
+
+    new : is_settled t fact ≡ false
+    new = settled_mid t mid fact false mid_is not_yet
+
+    p : Pays s.level t entry fact
+    p = taken_pays unaries s.level t mid.waiting entry u.unary fact u.at given taken new s.way
+
+    within : fact < length t.costs
+    within = omega arith
+
+    in_flags : fact < length t.settled
+    in_flags = omega arith
+
+    now_here : now ≡ after t fact entry.price mid.waiting order
+    now_here =
+        now_is ∙ ap (λ (s : Settlement). given_at s fact entry.number) mid_is
+        ∙ ap (λ (costs : List ℕ). record { costs = costs; settled = slice_set t.settled fact true; opens = t.opens; waiting = mid.waiting; order = order }) (sym (ap (slice_set t.costs fact) (sym p.cost_is) ∙ set-get_or t.costs fact 4294967295))
+
+    grows : chosen unaries order ≡ chosen unaries t.order ++ u.unary ∷ []
+    grows = chosen_grows unaries t.order entry.number u.unary u.at
+
+    more : (had : List ℕ) (f : ℕ) → (is_among (gained unaries had t.order) f || nat_eq f fact) ≡ is_among (gained unaries had order) f
+    more had f =
+        rw (grows, map-append (λ (x : Unary). x.gives) (chosen unaries t.order) (u.unary ∷ []), ← append_assoc had (given_by (chosen unaries t.order)) (u.unary.gives ∷ []), list_any-append (nat_eq f) (gained unaries had t.order) (u.unary.gives ∷ []), ← given)
+        (ap (λ (b : Bool). is_among (gained unaries had t.order) f || b) (sym (or-false (nat_eq f fact))))
+
+    conds : list_all (is_reached t) u.unary.conds ≡ true
+    conds = all_reached t u.unary.conds (let count = (s.way.each entry.number u.unary u.at).count in let none = p.none_open in omega (arith, count, none))
+
+    reached_had : (without had list : List ℕ) → IsFrom unaries without had t → list_all (is_reached t) list ≡ true → list_all (is_among (gained unaries had t.order)) list ≡ true
+    reached_had without had list from all = weaker (is_reached t) (is_among (gained unaries had t.order)) list (λ f is. (both (is_among (gained unaries had t.order) f) (not (is_among without f)) (sym (from_reached unaries without had t f from) ∙ is)).0) all
 
 -- and all that need the fact count it
 pub given_later : (unaries : List Unary) (t now last : Settlement) (fact price : ℕ) (row : List ℕ) → IsGiven unaries t now fact price row → IsUnderWay unaries price [] last → HasCounted now last → IsLater unaries t last
@@ -448,32 +354,28 @@ given_later unaries t now last fact price row g way counted = record {
 }
 
 pub given_less : (unaries : List Unary) (t now last : Settlement) (fact price : ℕ) (row : List ℕ) → IsGiven unaries t now fact price row → HasCounted now last → left_to_do last < left_to_do t
-given_less unaries t now last fact price row g counted = settled_less t last fact g.within g.new (counted.settled ∙ g.settled) (counted.waiting_long ∙ g.waiting_long)
-
--- where only what waits changed
-pub waits_later : (unaries : List Unary) (t mid : Settlement) → mid ≡ record t { waiting = mid.waiting } → IsSettling unaries mid → IsLater unaries t mid
-waits_later unaries t mid mid_is way = record {
-  way = way;
-  from = λ without had from. subst (λ (z : Settlement). IsFrom unaries without had z) (sym mid_is) (from_passed unaries without had t mid.waiting from);
-  long = ap (λ (z : Settlement). length z.costs) mid_is;
-  stays = λ fact is. ap (λ (z : Settlement). is_settled z fact) mid_is ∙ is;
-}
+given_less unaries t now last fact price row g counted =
+    let some = waiting_within last.waiting in
+    let long = counted.waiting_long ∙ g.waiting_long in
+    let one = fewer_unsettled t.settled fact g.within g.new in
+    let here : unsettled t.settled * (length t.waiting + 1) ≡ (unsettled last.settled + 1) * (length last.waiting + 1) = rw (long, counted.settled, g.settled, one) refl in
+    omega (arith, some, here)
 
 -- or its fact is settled already
 pub passed_later : (unaries : List Unary) (t mid : Settlement) (fact : ℕ) (entry : Entry) → length t.waiting ≡ length t.opens → mid ≡ record t { waiting = mid.waiting } → IsTaken t.waiting mid.waiting entry → ((u : Unary) → slice_get unaries entry.number ≡ Some u → fact ≡ u.gives) →
     is_settled mid fact ≡ true → IsSettling unaries t → IsLater unaries t mid
-passed_later unaries t mid fact entry waiting_long mid_is taken gives old s =
-    let u = unary_there unaries entry.number (taken_within unaries t mid entry taken waiting_long s) in
-    let was : is_settled t u.unary.gives ≡ true = ap (is_settled t) (sym (gives u.unary u.at)) ∙ settled_mid t mid fact true mid_is old in
-    waits_later unaries t mid mid_is (record { level = entry.price; way = subst (λ (z : Settlement). IsUnderWay unaries entry.price [] z) (sym mid_is) (passed_way unaries s.level t mid.waiting entry u.unary u.at taken was s.way) })
+passed_later unaries t mid fact entry waiting_long mid_is taken gives old s = rw mid_is (record {
+  way = record { level = entry.price; way = (let u = unary_there unaries entry.number (taken_within unaries t mid entry taken waiting_long s) in passed_way unaries s.level t mid.waiting entry u.unary fact u.at (gives u.unary u.at) taken (settled_mid t mid fact true mid_is old) s.way) };
+  from = λ without had from. record { out = from.out; settled = from.settled; first = from.first; in_order = from.in_order };
+  long = refl;
+  stays = λ f is. is;
+})
 
-pub passed_less_now : (t mid : Settlement) (entry : Entry) → mid ≡ record t { waiting = mid.waiting } → IsTaken t.waiting mid.waiting entry → left_to_do mid < left_to_do t
-passed_less_now t mid entry mid_is taken = passed_less t mid entry taken (ap (λ (s : Settlement). s.settled) mid_is) (taken_long t.waiting mid.waiting entry taken)
-
--- none waits
-pub none_later : (unaries : List Unary) (t mid : Settlement) → mid ≡ record t { waiting = mid.waiting } → mid.waiting ≡ t.waiting → IsSettling unaries t → IsLater unaries t mid
-none_later unaries t mid mid_is same s =
-    waits_later unaries t mid mid_is (subst (λ (z : Settlement). IsSettling unaries z) (sym (mid_is ∙ ap (λ (w : List (Option ℕ)). record { costs = t.costs; settled = t.settled; opens = t.opens; waiting = w; order = t.order }) same)) s)
+pub passed_less : (t mid : Settlement) (entry : Entry) → mid ≡ record t { waiting = mid.waiting } → IsTaken t.waiting mid.waiting entry → left_to_do mid < left_to_do t
+passed_less t mid entry mid_is taken = rw mid_is
+    (let fewer = taken_fewer t.waiting mid.waiting entry taken in
+    let same : unsettled t.settled * (length mid.waiting + 1) ≡ unsettled t.settled * (length t.waiting + 1) = ap (λ (n : ℕ). unsettled t.settled * (n + 1)) (ap length taken.rest ∙ length-set t.waiting entry.number None) in
+    omega (arith, fewer, same))
 
 -- later and later
 pub later_more : (unaries : List Unary) (t u v : Settlement) → IsLater unaries t u → IsLater unaries u v → IsLater unaries t v
@@ -487,6 +389,10 @@ later_more unaries t u v a b = record {
 pub now_later : (unaries : List Unary) (t : Settlement) → IsSettling unaries t → IsLater unaries t t
 now_later unaries t way = record { way = way; from = λ without had from. from; long = refl; stays = λ fact is. is }
 
+-- none waits
+pub none_later : (unaries : List Unary) (t mid : Settlement) → mid ≡ record t { waiting = mid.waiting } → mid.waiting ≡ t.waiting → IsSettling unaries t → IsLater unaries t mid
+none_later unaries t mid mid_is same s = rw (mid_is, same) (now_later unaries t s)
+
 -- nothing is reached
 none_reached : (unaries : List Unary) (t : Settlement) → IsFresh unaries t → (fact : ℕ) → is_reached t fact ≡ false
 none_reached unaries t f fact = let large = lt-leb (cost_at t fact) 1000000000 (f.costs fact) in rw large (never (is_settled t fact))
@@ -495,13 +401,9 @@ none_reached unaries t f fact = let large = lt-leb (cost_at t fact) 1000000000 (
     never true = refl
     never false = refl
 
-all_unreached : (p : ℕ → Bool) (conds : List ℕ) → ((fact : ℕ) → p fact ≡ false) → unreached p conds ≡ length conds
-all_unreached p [] none = refl
-all_unreached p (c ∷ conds) none = let rest = all_unreached p conds none in let here : one_if (not (p c)) ≡ 1 = ap (λ (b : Bool). one_if (not b)) (none c) in omega arith
-
-none_paid : (p : ℕ → Bool) (x : ℕ → ℕ) (conds : List ℕ) → ((fact : ℕ) → p fact ≡ false) → paid p x conds ≡ 0
-none_paid p x [] none = refl
-none_paid p x (c ∷ conds) none = let rest = none_paid p x conds none in let here : one_if (p c) * x c ≡ 0 = ap (λ (b : Bool). one_if b * x c) (none c) ∙ omega arith in omega (arith, rest, here)
+none_summed : (f : ℕ → ℕ) (n : ℕ) (conds : List ℕ) → ((fact : ℕ) → f fact ≡ n) → summed f conds ≡ length conds * n
+none_summed f n [] same = omega arith
+none_summed f n (c ∷ conds) same = let rest = none_summed f n conds same in let here = same c in omega (arith, rest, here)
 
 -- a fresh evaluation is under way, where those without conditions are owed
 pub fresh_way : (unaries : List Unary) (t : Settlement) (row : List ℕ) → AreFree unaries row → IsFresh unaries t → IsUnderWay unaries 0 row t
@@ -521,8 +423,8 @@ fresh_way unaries t row free f = record {
         let count : (open_at t place).count ≡ max (length u.conds) 1 = ap (λ (o : Open). o.count) is in
         let sum : (open_at t place).sum ≡ min u.cost 1000000000 = ap (λ (o : Open). o.sum) is in
         let once = free place u at in
-        let open_all = all_unreached (is_reached t) u.conds (none_reached unaries t f) in
-        let nothing = none_paid (is_reached t) (cost_at t) u.conds (none_reached unaries t f) in
+        let open_all = none_summed (one_open t) 1 u.conds (λ fact. rw (none_reached unaries t f fact) refl) in
+        let nothing = none_summed (share t) 0 u.conds (λ fact. rw (none_reached unaries t f fact) refl) in
         record {
           count = omega (arith, count, once, open_all);
           sum = omega (arith, sum, nothing);
@@ -530,109 +432,337 @@ fresh_way unaries t row free f = record {
           offered = λ none kept. absurd (omega (arith, count, none));
         }
 
-pub fresh_from : (unaries : List Unary) (t : Settlement) → IsFresh unaries t → (without : List ℕ) → ((fact : ℕ) → is_settled t fact ≡ is_among without fact) → IsFrom unaries without [] t
-fresh_from unaries t f without flags = record {
-  out = λ fact. (let large = lt-leb (cost_at t fact) 1000000000 (f.costs fact) in ap (λ (b : Bool). is_settled t fact && not b) large ∙ (and_true (is_settled t fact) ∙ flags fact));
-  reached = λ fact. none_reached unaries t f fact ∙ ap (λ (order : List ℕ). is_among ([] ++ given_by (chosen unaries order)) fact && not (is_among without fact)) (sym f.order);
-  first = λ fact among stays. (let k : false ≡ true = among in absurd cc);
-  in_order = subst (λ (order : List ℕ). IsInOrder [] (chosen unaries order)) (sym f.order) tt;
-}
-
 -- a fact that is there at first is settled at no cost
 pub there_way : (unaries : List Unary) (facts : ℕ) (t now : Settlement) (fact : ℕ) (row : List ℕ) → facts ≡ length t.costs → length t.settled ≡ length t.costs → fact < length t.costs → is_settled t fact ≡ false → now ≡ there_at t fact → IsNeededBy unaries facts fact row → IsUnderWay unaries 0 [] t →
     IsUnderWay unaries 0 row now
 there_way unaries facts t now fact row facts_is settled_long within new is needs way =
-    subst (λ (s : Settlement). IsUnderWay unaries 0 row s) (sym is)
-    (settle_way unaries 0 t fact 0 t.waiting t.order row within (omega arith) new (omega arith) (omega arith) (omega arith) (λ place price at. (at, omega arith)) (λ place u at ne price waits. waits) (λ place among. inl among)
+    rw is (settle_way t fact 0 t.waiting t.order within (omega arith) new (omega arith) unaries 0 row (omega arith) (omega arith) (λ place price at. (at, omega arith)) (λ place u at ne price waits. waits) (λ place among. inl among)
     (λ place u at. needed_at unaries facts fact row needs place u at ∙ needed_same facts fact u.conds (omega arith)) way)
 
--- what is there, and one fact more
-no_order : (unaries : List Unary) (had : List ℕ) (t : Settlement) (f : ℕ) → t.order ≡ [] → is_among (had ++ given_by (chosen unaries t.order)) f ≡ is_among had f
-no_order unaries had t f none = ap (λ (order : List ℕ). is_among (had ++ given_by (chosen unaries order)) f) none ∙ ap (λ (xs : List ℕ). is_among xs f) (append-nil had)
-
-or_more : (had : List ℕ) (fact other : ℕ) → is_among (had ++ fact ∷ []) other ≡ (is_among had other || nat_eq other fact)
-or_more had fact other = list_any-append (nat_eq other) had (fact ∷ []) ∙ ap (λ (b : Bool). is_among had other || b) (or_false (nat_eq other fact))
-
-there_from : (unaries : List Unary) (without had : List ℕ) (t : Settlement) (fact : ℕ) → length t.settled ≡ length t.costs → fact < length t.costs → is_settled t fact ≡ false → t.order ≡ [] → IsFrom unaries without had t → IsFrom unaries without (had ++ fact ∷ []) (there_at t fact)
-there_from unaries without had t fact settled_long within new none from =
-    from_settled unaries without had (had ++ fact ∷ []) t.order t fact 0 t.waiting within (omega arith) new (omega arith)
-    (λ f. no_order unaries (had ++ fact ∷ []) t f none ∙ (or_more had fact f ∙ ap (λ (b : Bool). b || nat_eq f fact) (sym (no_order unaries had t f none))))
-    (λ f among. elim (or_cases (is_among had f) (nat_eq f fact) (sym (or_more had fact f) ∙ among)) [ inl was ↦ inl was | inr is ↦ inr (eqb-true f fact is, refl) ])
-    (subst (λ (order : List ℕ). IsInOrder (had ++ fact ∷ []) (chosen unaries order)) (sym none) tt) from
-
--- one that is settled already is there, or left out
-pub old_from : (unaries : List Unary) (without had : List ℕ) (t : Settlement) (fact : ℕ) → is_settled t fact ≡ true → t.order ≡ [] → IsUnderWay unaries 0 [] t → IsFrom unaries without had t → IsFrom unaries without (had ++ fact ∷ []) t
-old_from unaries without had t fact old none way from = record {
-  out = from.out;
-  reached = λ f. elim (places f fact) [
-    | inl here ↦
-        let among = no_order unaries (had ++ fact ∷ []) t f none ∙ (or_more had fact f ∙ (ap (λ (b : Bool). is_among had f || b) here.1 ∙ or_true (is_among had f))) in
-        ends f (ap (is_settled t) here.0 ∙ old) ∙ ap (λ (b : Bool). b && not (is_among without f)) (sym among)
-    | inr there ↦
-        let among = no_order unaries (had ++ fact ∷ []) t f none ∙ (or_more had fact f ∙ (ap (λ (b : Bool). is_among had f || b) there.1 ∙ or_false (is_among had f))) in
-        from.reached f ∙ ap (λ (b : Bool). b && not (is_among without f)) (no_order unaries had t f none ∙ sym among)
-  ];
-  first = λ f among stays. elim (places f fact) [
-    | inl here ↦ let low = way.low f (ends f (ap (is_settled t) here.0 ∙ old) ∙ rw stays refl) in omega (arith, low)
-    | inr there ↦ from.first f (sym (or_false (is_among had f)) ∙ (ap (λ (b : Bool). is_among had f || b) (sym there.1) ∙ (sym (or_more had fact f) ∙ among))) stays
-  ];
-  in_order = subst (λ (order : List ℕ). IsInOrder (had ++ fact ∷ []) (chosen unaries order)) (sym none) tt;
-}
-  where
-    by_cost : (a b c : Bool) → a ≡ true → c ≡ (a && not b) → (a && b) ≡ (true && not c)
-    by_cost true true c is out = rw out refl
-    by_cost true false c is out = rw out refl
-    by_cost false b c is out = let k : false ≡ true = is in absurd cc
-
-    ends : (f : ℕ) → is_settled t f ≡ true → is_reached t f ≡ (true && not (is_among without f))
-    ends f is = by_cost (is_settled t f) (nat_le (cost_at t f) 1000000000) (is_among without f) is (sym (from.out f))
-
--- some facts are there at first, and one fact more
-pub marked_more : (unaries : List Unary) (facts : List ℕ) (fact : ℕ) (s t now : Settlement) → HasMarked unaries facts s t → HasMarked unaries (fact ∷ []) t now → HasMarked unaries (facts ++ fact ∷ []) s now
-marked_more unaries facts fact s t now a b = record {
+-- some facts are there at first, and some more
+pub marked_more : (unaries : List Unary) (facts more : List ℕ) (s t now : Settlement) → HasMarked unaries facts s t → HasMarked unaries more t now → HasMarked unaries (facts ++ more) s now
+marked_more unaries facts more s t now a b = record {
   way = b.way;
-  from = λ without had below none from. (let parts = both (list_all (is_below (length s.costs)) facts) (list_all (is_below (length s.costs)) (fact ∷ [])) (sym (list_all-append (is_below (length s.costs)) facts (fact ∷ [])) ∙ below) in
-      let last : list_all (is_below (length t.costs)) (fact ∷ []) ≡ true = rw a.long parts.1 in
-      rw (← append_assoc had facts (fact ∷ [])) (b.from without (had ++ facts) last (a.order ∙ none) (a.from without had parts.0 none from)));
+  settled = λ f. b.settled f ∙ rw (a.settled f, a.long, list_any-append (nat_eq f) facts more) (turn (is_settled s f) (is_among facts f) (is_among more f) (is_below (length s.costs) f));
+  out = λ f. b.out f ∙ a.out f;
   order = b.order ∙ a.order;
   long = b.long ∙ a.long;
 }
+  where
+    turn : (a b c n : Bool) → ((a || (b && n)) || (c && n)) ≡ (a || ((b || c) && n))
+    turn true b c n = refl
+    turn false true true true = refl
+    turn false true true false = refl
+    turn false true false n = or-false n
+    turn false false c n = refl
 
-pub none_marked : (unaries : List Unary) (t : Settlement) → IsUnderWay unaries 0 [] t → HasMarked unaries [] t t
-none_marked unaries t way = record { way = way; from = λ without had below none from. rw (append-nil had) from; order = refl; long = refl }
+pub counted_marked : (unaries : List Unary) (t now : Settlement) → IsUnderWay unaries 0 [] now → HasCounted t now → HasMarked unaries [] t now
+counted_marked unaries t now way counted = record {
+  way = way;
+  settled = λ f. rw counted.settled (sym (or-false (is_settled t f)));
+  out = λ f. (reached_same t now counted.settled counted.kept f).1;
+  order = counted.order;
+  long = counted.costs_long;
+}
 
 -- a list is marked one by one
+pub none_marked : (unaries : List Unary) (t : Settlement) → IsUnderWay unaries 0 [] t → HasMarked unaries [] t t
+none_marked unaries t way = counted_marked unaries t t way (none_counted t)
+
 pub taken_marked : (unaries : List Unary) (facts : List ℕ) (k fact : ℕ) (s t now : Settlement) → k < length facts → fact ≡ get_or facts k 0 → HasMarked unaries (take k facts) s t → HasMarked unaries (fact ∷ []) t now → HasMarked unaries (take (k + 1) facts) s now
-taken_marked unaries facts k fact s t now lt at a b = rw (take_more facts k 0 lt, ← at) (marked_more unaries (take k facts) fact s t now a b)
+taken_marked unaries facts k fact s t now lt at a b = rw (take_more facts k 0 lt, ← at) (marked_more unaries (take k facts) (fact ∷ []) s t now a b)
 
 pub all_marked : (unaries : List Unary) (facts : List ℕ) (k : ℕ) (s t : Settlement) → length facts ≤ k → HasMarked unaries (take k facts) s t → HasMarked unaries facts s t
-all_marked unaries facts k s t le a = subst (λ (xs : List ℕ). HasMarked unaries xs s t) (take_all k facts le) a
+all_marked unaries facts k s t le a = rw take_all at a
 
 -- a fact that was not settled
 pub there_marked : (unaries : List Unary) (t mid now : Settlement) (fact : ℕ) → length t.settled ≡ length t.costs → fact < length t.costs → is_settled t fact ≡ false → mid ≡ there_at t fact → IsUnderWay unaries 0 [] now → HasCounted mid now → HasMarked unaries (fact ∷ []) t now
 there_marked unaries t mid now fact long within new mid_is way counted = record {
   way = way;
-  from = λ without had below none from. from_counted unaries without (had ++ fact ∷ []) mid now counted (subst (λ (s : Settlement). IsFrom unaries without (had ++ fact ∷ []) s) (sym mid_is) (there_from unaries without had t fact long within new none from));
-  order = counted.order ∙ ap (λ (s : Settlement). s.order) mid_is;
-  long = counted.costs_long ∙ (ap (λ (s : Settlement). length s.costs) mid_is ∙ length-set t.costs fact 0);
+  settled = λ f. later.settled f ∙ (or-false (is_settled (there_at t fact) f) ∙ (flagged t.settled fact f (omega arith) ∙ elim (places f fact) [
+    | inl here ↦ rw (here.1, here.0, lt-ltb fact (length t.costs) within) refl
+    | inr apart ↦ rw apart.1 refl
+  ]));
+  out = λ f. later.out f ∙ kept t fact 0 t.waiting t.order within (omega arith) new (omega arith) f;
+  order = later.order;
+  long = later.long ∙ length-set t.costs fact 0;
 }
+  where
+    later : HasMarked unaries [] (there_at t fact) now
+    later = counted_marked unaries (there_at t fact) now way (rw mid_is at counted)
 
 -- a fact that was settled already, or isn't there
 pub old_marked : (unaries : List Unary) (t : Settlement) (fact : ℕ) → (fact < length t.costs → is_settled t fact ≡ true) → IsUnderWay unaries 0 [] t → HasMarked unaries (fact ∷ []) t t
 old_marked unaries t fact old way = record {
   way = way;
-  from = λ without had below none from. old_from unaries without had t fact (old (ltb-true fact (length t.costs) (sym (and_true (nat_lt fact (length t.costs))) ∙ below))) none way from;
+  settled = λ f. elim (places f fact) [
+    | inl here ↦ rw (here.1, here.0) (by_test (is_below (length t.costs) fact) refl)
+    | inr apart ↦ rw apart.1 (sym (or-false (is_settled t f)))
+  ];
+  out = λ f. refl;
   order = refl;
   long = refl;
 }
+  where
+    by_test : (b : Bool) → is_below (length t.costs) fact ≡ b → is_settled t fact ≡ (is_settled t fact || b)
+    by_test true is = rw (old (ltb-true fact (length t.costs) is)) refl
+    by_test false is = sym (or-false (is_settled t fact))
+
+-- What is there after some facts were marked, where nothing was reached.
+pub begun : (unaries : List Unary) (without had : List ℕ) (t now : Settlement) → IsFresh unaries t → ((fact : ℕ) → is_settled t fact ≡ is_among without fact) → list_all (is_below (length t.costs)) had ≡ true → HasMarked unaries had t now → IsFrom unaries without had now
+begun unaries without had t now fresh flags below marked = record {
+  out = out;
+  settled = settled;
+  first = λ f among stays. (let low = marked.way.low f (reached_if now f (settled f ∙ rw (none, append-nil had, among) (or-true (is_among without f))) (out f ∙ stays)) in omega (arith, low));
+  in_order = rw none tt;
+}
+  where
+    none : now.order ≡ []
+    none = marked.order ∙ fresh.order
+
+    out : (f : ℕ) → is_left_out now f ≡ is_among without f
+    out f = marked.out f ∙ (let large = lt-leb (cost_at t f) 1000000000 (fresh.costs f) in rw large (and-true (is_settled t f) ∙ flags f))
+
+    by_among : (f : ℕ) (b : Bool) → is_among had f ≡ b → (b && is_below (length t.costs) f) ≡ b
+    by_among f true among = all_has over_numbers (is_below (length t.costs)) had f below among
+    by_among f false among = refl
+
+    settled : (f : ℕ) → is_settled now f ≡ (is_among without f || is_among (gained unaries had now.order) f)
+    settled f = rw (none, append-nil had) (marked.settled f ∙ rw (flags f, by_among f (is_among had f) refl) refl)
 
 -- one fact more is left out
 pub out_more : (numbers : List ℕ) (old new : List Bool) (k number : ℕ) → k < length numbers → number ≡ get_or numbers k 0 → number < length old → new ≡ slice_set old number true → ((fact : ℕ) → get_or old fact false ≡ is_among (take k numbers) fact) →
     (fact : ℕ) → get_or new fact false ≡ is_among (take (k + 1) numbers) fact
-out_more numbers old new k number lt at within is so fact =
-    rw (is, list_any_more (nat_eq fact) numbers k 0 lt, ← at) (elim (places fact number) [
-      | inl here ↦
-          let set_there : get_or (slice_set old number true) number false ≡ true = get_or-set_same old number true false within in
-          rw here.1 (ap (λ (f : ℕ). get_or (slice_set old number true) f false) here.0 ∙ (set_there ∙ sym (or_true (is_among (take k numbers) fact))))
-      | inr other ↦ rw other.1 (get_or-set_other old number fact true false other.0 ∙ (so fact ∙ sym (or_false (is_among (take k numbers) fact))))
-    ])
+out_more numbers old new k number lt at within is so fact = rw (is, list_any_more (nat_eq fact) numbers k 0 lt, ← at, ← so fact) (flagged old number fact within)
+
+below_least : (v w : ℕ → Estimate) (fact : ℕ) (without : List ℕ) (unaries : List Unary) → ((f : ℕ) → IsAtMost (v f) (w f)) → is_among without fact ≡ false → IsClosed unaries without v → IsAtMost (v fact) (least_price over_numbers w fact unaries)
+below_least v w fact without [] le stays closed = at_most_infinite (v fact)
+below_least v w fact without (u ∷ unaries) le stays closed = by_test (nat_eq u.gives fact) refl (below_least v w fact without unaries le stays (λ i. closed (suc i)))
+  where
+    by_test : (b : Bool) → nat_eq u.gives fact ≡ b → IsAtMost (v fact) (least_price over_numbers w fact unaries) →
+        IsAtMost (v fact) (if b then least (price w u) (least_price over_numbers w fact unaries) else least_price over_numbers w fact unaries)
+    by_test true is rest =
+        let same = eqb-true u.gives fact is in
+        let own = at_most_trans (v u.gives) (price v u) (price w u) (closed 0 u refl (ap (is_among without) same ∙ stays)) (price_at_most over_numbers v w u le) in
+        both_at_least (v fact) (price w u) (least_price over_numbers w fact unaries) (subst (λ (f : ℕ). IsAtMost (v f) (price w u)) same own) rest
+    by_test false is rest = rest
+
+-- costs that no unary operator lowers are below all rounds
+pub closed_is_below : (unaries : List Unary) (start without : List ℕ) (v : ℕ → Estimate) → ((fact : ℕ) → is_started start without fact ≡ true → v fact ≡ Finite 0) → IsClosed unaries without v →
+    (n fact : ℕ) → IsAtMost (v fact) (add_round unaries start without n fact)
+closed_is_below unaries start without v first closed zero fact = by_test (is_started start without fact) refl
+  where
+    by_test : (b : Bool) → is_started start without fact ≡ b → IsAtMost (v fact) (if b then Finite 0 else Infinite)
+    by_test true is = rw (first fact is) (at_most_self (Finite 0))
+    by_test false is = at_most_infinite (v fact)
+closed_is_below unaries start without v first closed (suc n) fact = by_test (is_among without fact) refl (closed_is_below unaries start without v first closed n)
+  where
+    by_test : (b : Bool) → is_among without fact ≡ b → ((f : ℕ) → IsAtMost (v f) (add_round unaries start without n f)) →
+        IsAtMost (v fact) (if b then Infinite else least (add_round unaries start without n fact) (least_price over_numbers (add_round unaries start without n) fact unaries))
+    by_test true out before = at_most_infinite (v fact)
+    by_test false stays before =
+        both_at_least (v fact) (add_round unaries start without n fact) (least_price over_numbers (add_round unaries start without n) fact unaries) (before fact)
+        (below_least v (add_round unaries start without n) fact without unaries before stays closed)
+
+-- what facts cost so far, at most so much
+abbrev upto : Settlement → Estimate → ℕ → Estimate
+upto t top fact = least (value_at t.costs fact) top
+
+-- what is reached costs no more, and all else no less
+record Bounds (t : Settlement) (top : Estimate) : Type 0 where
+  capped : IsCapped top
+  below : (fact : ℕ) → is_reached t fact ≡ true → IsAtMost (value_at t.costs fact) top
+  above : (fact : ℕ) → is_reached t fact ≡ false → IsAtMost top (value_at t.costs fact)
+
+least_is : (a b : Estimate) → IsAtMost a b → least a b ≡ a
+least_is a b le = at_most_both (least a b) a (least_left a b) (both_at_least a a b (at_most_self a) le)
+
+-- where some condition isn't reached the sum is no less
+some_more : (t : Settlement) (top : Estimate) (conds : List ℕ) → Bounds t top → 0 < summed (one_open t) conds → IsAtMost top (total (upto t top) conds)
+some_more t top [] p some = absurd (omega arith)
+some_more t top (c ∷ conds) p some = by_test (is_reached t c) refl some (λ rest. some_more t top conds p rest)
+  where
+    by_test : (b : Bool) → is_reached t c ≡ b → 0 < one_if (not b) + summed (one_open t) conds → (0 < summed (one_open t) conds → IsAtMost top (total (upto t top) conds)) → IsAtMost top (total (upto t top) (c ∷ conds))
+    by_test true is some rest = at_most_trans top (total (upto t top) conds) (total (upto t top) (c ∷ conds)) (rest (omega arith)) (plus_right (upto t top c) (total (upto t top) conds) (sum_capped (upto t top) conds))
+    by_test false is some rest =
+        let here = at_most_both (upto t top c) top (least_right (value_at t.costs c) top) (both_at_least top (value_at t.costs c) top (p.above c is) (at_most_self top)) in
+        rw here (plus_left top (total (upto t top) conds) p.capped)
+
+reached_value : (t : Settlement) (fact : ℕ) → is_reached t fact ≡ true → value_at t.costs fact ≡ Finite (cost_at t fact)
+reached_value t fact is = finite_is (cost_at t fact) (reached_small t fact is).1
+
+sum_same : (v w : ℕ → Estimate) (p : ℕ → Bool) (facts : List ℕ) → ((fact : ℕ) → p fact ≡ true → v fact ≡ w fact) → list_all p facts ≡ true → total v facts ≡ total w facts
+sum_same v w p [] same all = refl
+sum_same v w p (f ∷ facts) same all = let parts = both (p f) (list_all p facts) all in rw (same f parts.0, sum_same v w p facts same parts.1) refl
+
+-- no unary operator lowers what facts cost up to a bound
+closed : (unaries : List Unary) (without : List ℕ) (level : ℕ) (t : Settlement) (top : Estimate) → ((fact : ℕ) → is_left_out t fact ≡ is_among without fact) → Bounds t top → IsUnderWay unaries level [] t → IsClosed unaries without (upto t top)
+closed unaries without level t top out p way i u at stays = elim (cases_lt 0 (open_at t i).count) [
+  | inl some ↦
+      let count = was.count in
+      at_most_trans (upto t top u.gives) top (price (upto t top) u) (least_right (value_at t.costs u.gives) top)
+      (at_most_trans top (total (upto t top) u.conds) (price (upto t top) u) (some_more t top u.conds p (omega arith)) (plus_right (Finite u.cost) (total (upto t top) u.conds) (sum_capped (upto t top) u.conds)))
+  | inr none ↦
+      let le = was.offered (omega arith) (out u.gives ∙ stays) in
+      let small = was.small in
+      let asks = price_sum unaries level i t (upto t top) u at (λ fact is. least_is (value_at t.costs fact) top (p.below fact is) ∙ reached_value t fact is) (omega arith) way in
+      let value = finite_is (cost_at t u.gives) (omega arith) in
+      let here : IsAtMost (value_at t.costs u.gives) (Finite (open_at t i).sum) = rw value le in
+      rw asks (at_most_trans (upto t top u.gives) (value_at t.costs u.gives) (Finite (open_at t i).sum) (least_left (value_at t.costs u.gives) top) here)
+]
+  where
+    was : IsCounted t level [] i u
+    was = way.each i u at
+
+-- those that settled a fact are best
+all_best : (unaries : List Unary) (level : ℕ) (t : Settlement) (order : List ℕ) → ((place : ℕ) → is_among order place ≡ true → HasSettled unaries t place) → IsUnderWay unaries level [] t → (are_places (length unaries) order ≡ true) × AreBest unaries (value_at t.costs) (chosen unaries order)
+all_best unaries level t [] each way = (refl, tt)
+all_best unaries level t (i ∷ order) each way =
+    let here = each i (among i) in
+    let rest = all_best unaries level t order (λ place is. each place (later place is)) way in
+    let lt : nat_lt i (length unaries) ≡ true = lt-ltb i (length unaries) (slice_get_within unaries i here.unary here.at) in
+    let asks = price_sum unaries level i t (value_at t.costs) here.unary here.at (reached_value t) here.none_open way in
+    let value = reached_value t here.unary.gives here.reached in
+    let best : IsBest unaries (value_at t.costs) here.unary = record { place = i; at = here.at; finite = ap is_finite value; pays = asks ∙ (ap (λ (n : ℕ). Finite n) (sym here.pays) ∙ sym value) } in
+    (rw lt rest.0, rw here.at (best, rest.1))
+  where
+    among : (i : ℕ) → is_among (i ∷ order) i ≡ true
+    among i = rw (eq-eqb i i refl) refl
+
+    later : (place : ℕ) → is_among order place ≡ true → is_among (i ∷ order) place ≡ true
+    later place is = by_test (nat_eq place i)
+      where
+        by_test : (b : Bool) → (b || is_among order place) ≡ true
+        by_test true = refl
+        by_test false = is
+
+-- what is given in order by best supporters is attained by rounds
+attained_in : (unaries : List Unary) (start without : List ℕ) (v : ℕ → Estimate) (have : List ℕ) (list : List Unary) → ((fact : ℕ) → is_among without fact ≡ true → v fact ≡ Infinite) → IsInOrder have list → AreBest unaries v list →
+    ((fact : ℕ) → is_among have fact ≡ true → (n : ℕ) × IsAtMost (add_round unaries start without n fact) (v fact)) → (fact : ℕ) → is_among (have ++ given_by list) fact ≡ true → (n : ℕ) × IsAtMost (add_round unaries start without n fact) (v fact)
+attained_in unaries start without v have [] outside order best so fact among = so fact (rw append-nil at among)
+attained_in unaries start without v have (u ∷ list) outside order best so fact among =
+    attained_in unaries start without v (u.gives ∷ have) list outside order.2 best.1 (λ f is. more f (is_among have f) refl is) fact (subst (λ (p : ℕ → Bool). p fact ≡ true) (turned u.gives have (given_by list)) among)
+  where
+    w : ℕ → Estimate
+    w f = if is_among have f then v f else Infinite
+
+    each : (f : ℕ) (b : Bool) → is_among have f ≡ b → (n : ℕ) × IsAtMost (add_round unaries start without n f) (if b then v f else Infinite)
+    each f true is = so f is
+    each f false is = (0, at_most_infinite (add_round unaries start without 0 f))
+
+    stays : is_among without u.gives ≡ false
+    stays = false_from_ne_true (is_among without u.gives) (λ out. let k : true ≡ false = sym best.0.finite ∙ ap is_finite (outside u.gives out) in cc)
+
+    price_is : price w u ≡ v u.gives
+    price_is = ap (λ (e : Estimate). estimate_sum (Finite u.cost) e) (sum_same w v (is_among have) u.conds (λ f is. rw is refl) order.0) ∙ best.0.pays
+
+    gives : (n : ℕ) × IsAtMost (add_round unaries start without n u.gives) (v u.gives)
+    gives = let a = price_attained over_numbers unaries start without w best.0.place u best.0.at stays (λ f. each f (is_among have f) refl) in (a.0, rw price_is at a.1)
+
+    more : (f : ℕ) (b : Bool) → is_among have f ≡ b → is_among (u.gives ∷ have) f ≡ true → (n : ℕ) × IsAtMost (add_round unaries start without n f) (v f)
+    more f true is among = so f is
+    more f false is among =
+        let same : f ≡ u.gives = eqb-true f u.gives (sym (or-false (nat_eq f u.gives)) ∙ rw is at among) in
+        subst (λ (g : ℕ). (n : ℕ) × IsAtMost (add_round unaries start without n g) (v g)) (sym same) gives
+
+-- a fact that is reached costs no less than by the rounds
+reached_attained : (unaries : List Unary) (start without : List ℕ) (t : Settlement) (fact : ℕ) → is_reached t fact ≡ true → IsSettling unaries t → IsFrom unaries without start t → (n : ℕ) × IsAtMost (add_round unaries start without n fact) (value_at t.costs fact)
+reached_attained unaries start without t fact is s from =
+    attained_in unaries start without (value_at t.costs) start (chosen unaries t.order) outside from.in_order (all_best unaries s.level t t.order s.way.settled_by s.way).1 (λ f among. first f among (is_among without f) refl) fact
+    (both (is_among (start ++ given_by (chosen unaries t.order)) fact) (not (is_among without fact)) (sym (from_reached unaries without start t fact from) ∙ is)).0
+  where
+    outside : (f : ℕ) → is_among without f ≡ true → value_at t.costs f ≡ Infinite
+    outside f out = let large = denied (nat_le (cost_at t f) 1000000000) (both (is_settled t f) (not (nat_le (cost_at t f) 1000000000)) (from.out f ∙ out)).1 in rw large refl
+
+    first : (f : ℕ) → is_among start f ≡ true → (b : Bool) → is_among without f ≡ b → (n : ℕ) × IsAtMost (add_round unaries start without n f) (value_at t.costs f)
+    first f among true out = (0, rw (outside f out) (at_most_infinite (add_round unaries start without 0 f)))
+    first f among false stays = (0, rw (among, stays, from.first f among stays) (at_most_self (Finite 0)))
+
+-- what costs no more than a bound is exact, where it is attained
+exact_where : (unaries : List Unary) (start without : List ℕ) (level : ℕ) (t : Settlement) (top : Estimate) (fact : ℕ) → IsAtMost (value_at t.costs fact) top → (n : ℕ) × IsAtMost (add_round unaries start without n fact) (value_at t.costs fact) → Bounds t top → IsUnderWay unaries level [] t →
+    IsFrom unaries without start t → IsLeast (λ n. add_round unaries start without n fact) (value_at t.costs fact)
+exact_where unaries start without level t top fact le a p way from = record { round = a.0; is = at_most_both (add_round unaries start without a.0 fact) (value_at t.costs fact) a.1 (below a.0); least = below }
+  where
+    first : (f : ℕ) → is_started start without f ≡ true → upto t top f ≡ Finite 0
+    first f begins =
+        let parts = both (is_among start f) (not (is_among without f)) begins in
+        let stays = denied (is_among without f) parts.1 in
+        let is = from_reached unaries without start t f from ∙ rw (list_any-append (nat_eq f) start (given_by (chosen unaries t.order)), parts.0, stays) refl in
+        least_is (value_at t.costs f) top (p.below f is) ∙ ap estimate_of (from.first f parts.0 stays)
+
+    below : (n : ℕ) → IsAtMost (value_at t.costs fact) (add_round unaries start without n fact)
+    below n = rw (least_is (value_at t.costs fact) top le) at (closed_is_below unaries start without (upto t top) first (closed unaries without level t top from.out p way) n fact)
+
+-- what isn't reached is infinite, or some unary operator waits for it
+unreached_is : (unaries : List Unary) (level : ℕ) (t : Settlement) (fact : ℕ) → is_reached t fact ≡ false → IsUnderWay unaries level [] t → (value_at t.costs fact ≡ Infinite) ⊎ ((value_at t.costs fact ≡ Finite (cost_at t fact)) × IsWanted unaries t fact)
+unreached_is unaries level t fact not_there way = by_cost (nat_le (cost_at t fact) 1000000000) refl (is_settled t fact) refl
+  where
+    by_cost : (b : Bool) → nat_le (cost_at t fact) 1000000000 ≡ b → (a : Bool) → is_settled t fact ≡ a → (value_at t.costs fact ≡ Infinite) ⊎ ((value_at t.costs fact ≡ Finite (cost_at t fact)) × IsWanted unaries t fact)
+    by_cost false large a is = inl (infinite_is (cost_at t fact) (leb-false (cost_at t fact) 1000000000 large))
+    by_cost true small true is = let k : true ≡ false = sym (rw (is, small) refl) ∙ not_there in absurd cc
+    by_cost true small false is = let le = leb-true (cost_at t fact) 1000000000 small in inr (finite_is (cost_at t fact) le, way.wanted fact is le)
+
+-- A fact that is reached costs what it does by the rounds, also where others are not settled yet.
+pub reached_exact : (unaries : List Unary) (start without : List ℕ) (t : Settlement) (fact : ℕ) → is_reached t fact ≡ true → IsSettling unaries t → IsFrom unaries without start t → IsLeast (λ n. add_round unaries start without n fact) (value_at t.costs fact)
+reached_exact unaries start without t fact is s from = exact_where unaries start without s.level t (Finite s.level) fact (below fact is) (reached_attained unaries start without t fact is s from) (record {
+  capped = s.way.level_small;
+  below = below;
+  above = λ f not_there. elim (unreached_is unaries s.level t f not_there s.way) [
+    | inl none ↦ rw none tt
+    | inr some ↦ rw some.0 (s.way.waits some.1.place (cost_at t f) some.1.waits).above
+  ];
+}) s.way from
+  where
+    below : (f : ℕ) → is_reached t f ≡ true → IsAtMost (value_at t.costs f) (Finite s.level)
+    below f is = rw (reached_value t f is) (s.way.low f is)
+
+-- where none waits, what isn't reached is infinite
+pub idle_infinite : (unaries : List Unary) (t : Settlement) (fact : ℕ) → IsIdle t.waiting → is_reached t fact ≡ false → IsSettling unaries t → value_at t.costs fact ≡ Infinite
+idle_infinite unaries t fact idle not_there s = elim (unreached_is unaries s.level t fact not_there s.way) [
+  | inl none ↦ none
+  | inr some ↦ let k : None ≡ Some (cost_at t fact) = sym (idle some.1.place) ∙ some.1.waits in absurd cc
+]
+
+-- Where none waits, all facts cost what they do by the rounds.
+pub idle_exact : (unaries : List Unary) (start without : List ℕ) (t : Settlement) → IsIdle t.waiting → IsSettling unaries t → IsFrom unaries without start t → (fact : ℕ) → IsLeast (λ n. add_round unaries start without n fact) (value_at t.costs fact)
+idle_exact unaries start without t idle s from fact = exact_where unaries start without s.level t Infinite fact (at_most_infinite (value_at t.costs fact)) (attained (is_reached t fact) refl) (record {
+  capped = tt;
+  below = λ f is. at_most_infinite (value_at t.costs f);
+  above = λ f not_there. rw (idle_infinite unaries t f idle not_there s) tt;
+}) s.way from
+  where
+    attained : (a : Bool) → is_reached t fact ≡ a → (n : ℕ) × IsAtMost (add_round unaries start without n fact) (value_at t.costs fact)
+    attained true is = reached_attained unaries start without t fact is s from
+    attained false is = (0, rw (idle_infinite unaries t fact idle is s) (at_most_infinite (add_round unaries start without 0 fact)))
+
+pub order_of : (unaries : List Unary) (start : List ℕ) (t : Settlement) → IsIdle t.waiting → IsSettling unaries t → IsFrom unaries [] start t → IsOrder unaries start (value_at t.costs) t.order
+order_of unaries start t idle s from =
+    let best = all_best unaries s.level t t.order s.way.settled_by s.way in
+    record {
+      places = best.0;
+      best = best.1;
+      in_order = from.in_order;
+      given = λ fact finite. given fact finite (is_reached t fact) refl;
+    }
+  where
+    given : (fact : ℕ) → is_finite (value_at t.costs fact) ≡ true → (b : Bool) → is_reached t fact ≡ b → is_among (start ++ given_by (chosen unaries t.order)) fact ≡ true
+    given fact finite true is = (both (is_among (start ++ given_by (chosen unaries t.order)) fact) true (sym (from_reached unaries [] start t fact from) ∙ is)).0
+    given fact finite false is = let k : false ≡ true = sym (ap is_finite (idle_infinite unaries t fact idle is s)) ∙ finite in absurd cc
+
+pub places_of : (unaries : List Unary) (t : Settlement) → IsSettling unaries t → are_places (length unaries) t.order ≡ true
+places_of unaries t s = (all_best unaries s.level t t.order s.way.settled_by s.way).0
+
+pub all_evaluated : (parts : Parts) (kind : CostKind) (relaxed : Lists) (state without : List ℕ) (t : Settlement) → IsRelaxed parts kind relaxed → IsIdle t.waiting → IsSettling relaxed.unaries t →
+    IsFrom relaxed.unaries without (start_facts parts state) t → IsEvaluatedByNumber parts kind state without t.costs
+all_evaluated parts kind relaxed state without t is idle way from fact = rw (← is.unaries) (idle_exact relaxed.unaries (start_facts parts state) without t idle way from fact)
+
+pub goals_evaluated : (parts : Parts) (kind : CostKind) (relaxed : Lists) (state goals : List ℕ) (t : Settlement) → IsRelaxed parts kind relaxed → AreSettled goals t → IsSettling relaxed.unaries t →
+    IsFrom relaxed.unaries [] (start_facts parts state) t → (fact : ℕ) → is_among goals fact ≡ true → IsAdd parts kind state [] fact (value_at t.costs fact)
+goals_evaluated parts kind relaxed state goals t is settled way from fact among = rw (← is.unaries) (elim settled [
+  | inl all ↦ reached_exact relaxed.unaries (start_facts parts state) [] t fact (reached_if t fact (all_has over_numbers (is_settled t) goals fact all among) (from.out fact)) way from
+  | inr idle ↦ idle_exact relaxed.unaries (start_facts parts state) [] t idle way from fact
+])
+
+pub ruleset marks = (none_marked, taken_marked, all_marked)
+
+pub ruleset cleared = (few_unsettled, written_back)

@@ -6,7 +6,7 @@ use Rattle.sas_task.specs.declared.contents.Parts.{Parts}
 use Rattle.relaxed_task.specs.declared.unary.Unary.{Unary}
 use Rattle.relaxed_task.specs.Facts.{start_facts as facts_at_start}
 use Rattle.relaxed_task.specs.Numbers.{over_numbers, is_among, numbers_of, numbered_unaries}
-use Rattle.relaxed_task.specs.CostLaws.{IsAttained as IsAttainedBy, IsClosed as IsClosedBy}
+use Rattle.relaxed_task.specs.CostLaws.{IsClosed as IsClosedBy}
 use Rattle.relaxed_task.specs.Relaxing.{price_of, cost_in, IsCost, IsBest as IsBestOf, AreBest as AreAllBest, IsInOrder as IsInOrderOf}
 
 abbrev pub start_facts : Parts → List ℕ → List ℕ
@@ -33,9 +33,6 @@ AreBest unaries costs list = AreAllBest over_numbers unaries costs list
 
 abbrev pub IsInOrder : List ℕ → List Unary → Type 0
 IsInOrder facts list = IsInOrderOf over_numbers facts list
-
-abbrev pub IsAttained : List Unary → List ℕ → List ℕ → (ℕ → Estimate) → Type 0
-IsAttained unaries start without v = IsAttainedBy over_numbers unaries start without v
 
 abbrev pub IsClosed : List Unary → List ℕ → (ℕ → Estimate) → Type 0
 IsClosed unaries without v = IsClosedBy over_numbers unaries without v

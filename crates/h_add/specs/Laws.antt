@@ -1,9 +1,11 @@
 -- Laws of evaluated states, for those who build on the estimate.
-use Rattle.std.specs.Prelude.{◌≡◌, ℕ, suc, List, [], ◌∷◌, ◌++◌, Bool, true, false, not, ◌&&◌, ◌||◌, ◌↔◌, nat_eq, Some, slice_get}
+use Rattle.std.specs.Prelude.{◌≡◌, ℕ, List, length, [], ◌∷◌, ◌++◌, Bool, true, false, not, ◌&&◌, ◌||◌, ◌↔◌, nat_eq, Some, slice_get}
 use Rattle.std.specs.List.{list_all, list_any}
 use Rattle.std.proofs.Common.{refl, sym, ap, ◌∙◌}
 use Rattle.std.proofs.lemmas.Bool.{both_ways, eq-eqb, false_from_ne_true, not-false, not-true, not_from_false, not_from_true, true_from_ne_false}
 use Rattle.std.proofs.lemmas.List.Elements.{filter_map-append}
+use Rattle.std.proofs.lemmas.List.Folds.{Any-from_list_any}
+use Rattle.std.proofs.lemmas.Option.{slice_get_read}
 use Rattle.lama_num.specs.Lists.{list_all_get}
 use Rattle.lama_num.specs.declared.estimates.Estimate.{Estimate}
 use Rattle.lama_num.specs.declared.estimates.Estimate.TheVariants.{Infinite}
@@ -43,9 +45,6 @@ evaluated_facts parts kind state without costs formed of all each = record {
 abbrev pub AreGoalCosts : Parts → CostKind → List ℕ → List ℕ → Type 0
 AreGoalCosts parts kind state costs = (place : ℕ) (goal : Fact) → slice_get parts.goal place ≡ Some goal → IsAdditiveCost parts kind state [] goal (costs_by parts.variables (value_at costs) goal)
 
-pub goals_of_all : (parts : Parts) (kind : CostKind) (state costs : List ℕ) → IsWellFormed parts → IsEvaluated parts kind state [] costs → AreGoalCosts parts kind state costs
-goals_of_all parts kind state costs formed evaluated place goal at = evaluated.each goal (list_all_get (is_fact parts.variables) parts.goal place goal (goal-facts parts formed) at)
-
 pub goals_by_number : (parts : Parts) (kind : CostKind) (relaxed : Lists) (state costs : List ℕ) → IsRelaxed parts kind relaxed → IsState parts.variables state → ((fact : ℕ) → is_among relaxed.goals fact ≡ true → IsAdd parts kind state [] fact (value_at costs fact)) →
     AreGoalCosts parts kind state costs
 goals_by_number parts kind relaxed state costs is of each place goal at =
@@ -70,31 +69,13 @@ total_finite value (fact ∷ facts) = finite_plus (value fact) (total value fact
     same true b = refl
     same false b = refl
 
--- an element that passes a test
-record Found {X : Type 0} (p : X → Bool) (xs : List X) : Type 0 where
-  place : ℕ
-  element : X
-  at : slice_get xs place ≡ Some element
-  passes : p element ≡ true
-
-found_in : {X : Type 0} (p : X → Bool) (xs : List X) → list_any p xs ≡ true → Found p xs
-found_in p [] any = let k : false ≡ true = any in cc
-found_in p (x ∷ xs) any = by_test (p x) refl any (found_in p xs)
-  where
-    by_test : (b : Bool) → p x ≡ b → (b || list_any p xs) ≡ true → (list_any p xs ≡ true → Found p xs) → Found p (x ∷ xs)
-    by_test true is any rest = record { place = 0; element = x; at = refl; passes = is }
-    by_test false is any rest = let found = rest any in record { place = suc found.place; element = found.element; at = found.at; passes = found.passes }
-
 -- the sum over the goal facts is infinite exactly where the state is dead
 pub dead_by_goals : (parts : Parts) (kind : CostKind) (relaxed : Lists) (state costs : List ℕ) (value : Estimate) → IsRelaxed parts kind relaxed → AreGoalCosts parts kind state costs → value ≡ total (value_at costs) relaxed.goals → (value ≡ Infinite) ↔ IsDead parts state
 dead_by_goals parts kind relaxed state costs value is each sums = (
-  λ infinite. (let found = found_in (λ fact. not (is_finite (costs_by parts.variables (value_at costs) fact))) parts.goal (sym goals ∙ not-false _ (sym finite ∙ ap is_finite infinite)) in
-      record {
-        place = found.place;
-        goal = found.element;
-        at = found.at;
-        unreached = λ n. false_from_ne_true _ (λ reached. both_ways _ (not-true _ found.passes) ((exactly found.place found.element found.at).1 (record { round = n; reached = reached })));
-      }),
+  λ infinite.
+      (let found = Any-from_list_any (λ fact. not (is_finite (costs_by parts.variables (value_at costs) fact))) parts.goal (sym goals ∙ not-false _ (sym finite ∙ ap is_finite infinite)) in
+      let at = slice_get_read parts.goal (length parts.goal) found.0 found.1 refl found.2 (sym found.3) in
+      record { place = found.0; goal = found.1; at = at; unreached = λ n. false_from_ne_true _ (λ reached. both_ways _ (not-true _ found.4) ((exactly found.0 found.1 at).1 (record { round = n; reached = reached }))) }),
   λ dead. (let any = any_at (λ fact. not (is_finite (costs_by parts.variables (value_at costs) fact))) parts.goal dead.place dead.goal dead.at
       (not_from_false _ (false_from_ne_true _ (λ finite. (let r = (exactly dead.place dead.goal dead.at).0 finite in both_ways _ (dead.unreached r.round) r.reached)))) in
       infinite_where_not value (finite ∙ not_from_true _ (goals ∙ any))),
@@ -109,11 +90,14 @@ dead_by_goals parts kind relaxed state costs value is each sums = (
     exactly : (place : ℕ) (goal : Fact) → slice_get parts.goal place ≡ Some goal → (is_finite (costs_by parts.variables (value_at costs) goal) ≡ true) ↔ IsReached parts state [] goal
     exactly place goal at = finite_exactly parts kind state [] goal (costs_by parts.variables (value_at costs) goal) (each place goal at)
 
+pub dead_of_all : (parts : Parts) (kind : CostKind) (relaxed : Lists) (state costs : List ℕ) (value : Estimate) → IsRelaxed parts kind relaxed → IsEvaluated parts kind state [] costs → value ≡ total (value_at costs) relaxed.goals → (value ≡ Infinite) ↔ IsDead parts state
+dead_of_all parts kind relaxed state costs value is evaluated sums = dead_by_goals parts kind relaxed state costs value is (λ place goal at. evaluated.each goal (list_all_get (is_fact parts.variables) parts.goal place goal (goal-facts parts is.well_formed) at)) sums
+
 -- the goal facts are reached where the state isn't dead
 pub finite_if_alive : (parts : Parts) (kind : CostKind) (relaxed : Lists) (state costs : List ℕ) → IsRelaxed parts kind relaxed → IsEvaluated parts kind state [] costs → (IsDead parts state → ⊥) → list_all (λ fact. is_finite (value_at costs fact)) relaxed.goals ≡ true
 finite_if_alive parts kind relaxed state costs is evaluated alive =
     sym (sum_finite (value_at costs) relaxed.goals)
-    ∙ true_from_ne_false _ (λ none. alive ((dead_by_goals parts kind relaxed state costs (total (value_at costs) relaxed.goals) is (goals_of_all parts kind state costs is.well_formed evaluated) refl).0 (infinite_where_not _ none)))
+    ∙ true_from_ne_false _ (λ none. alive ((dead_of_all parts kind relaxed state costs (total (value_at costs) relaxed.goals) is evaluated refl).0 (infinite_where_not _ none)))
 
 -- one place more of an order
 pub chosen_grows : (unaries : List Unary) (order : List ℕ) (i : ℕ) (u : Unary) → slice_get unaries i ≡ Some u → chosen unaries (order ++ i ∷ []) ≡ chosen unaries order ++ u ∷ []

@@ -1,10 +1,6 @@
 pub mod ByNumber
 pub mod Laws
-pub mod Listings
 pub mod Networks
 pub mod Orders
-pub mod Ready
-pub mod Settlements
-pub mod Tables
 pub mod UnderWay
 pub mod Values

@@ -1,15 +1,12 @@
 -- What unary operators need and give.
-use Rattle.std.specs.Prelude.{◌≡◌, ℕ, ◌-◌, List, [], ◌∷◌, length, min, max, Bool, nat_lt, map, slice_get, slice_index_or, Some}
+use Rattle.std.specs.Prelude.{◌≡◌, ℕ, ◌+◌, ◌-◌, List, [], ◌∷◌, length, min, max, Bool, nat_eq, map, slice_get, slice_index_or, Some, IsTrue, if◌then◌else◌}
 use Rattle.std.specs.List.{list_all}
 use Rattle.cost_queue.specs.Occurrences.{occurrences}
 use Rattle.lama_num.specs.Rows.{row_at}
 use Rattle.relaxed_task.specs.declared.unary.Unary.{Unary}
-use Rattle.relaxed_task.specs.Numbers.{is_below}
+use Rattle.relaxed_task.specs.Numbers.{is_below, is_unary_below}
+use Rattle.relaxed_task.specs.declared.relaxation.Lists.{Lists}
 use Rattle.h_add.specs.declared.network.Open.{Open}
-
--- places of a list that is so long
-abbrev pub are_within : ℕ → List ℕ → Bool
-are_within n places = list_all (λ i. nat_lt i n) places
 
 abbrev pub are_below : ℕ → List ℕ → Bool
 are_below n facts = list_all (is_below n) facts
@@ -33,3 +30,17 @@ AreFree unaries row = (i : ℕ) (u : Unary) → slice_get unaries i ≡ Some u �
 -- all that is needed, and the cost, at most 1,000,000,000
 abbrev pub open_at_start : Unary → Open
 open_at_start u = record { count = max (length u.conds) 1; sum = min u.cost 1000000000 }
+
+-- a place was added to the lists of some facts, as often as they stand there
+pub record Listed (old new : List (List ℕ)) (facts : List ℕ) (place : ℕ) : Type 0 where
+  pub long : length new ≡ length old
+  pub counts : (fact i : ℕ) → occurrences i (row_at new fact) ≡ occurrences i (row_at old fact) + (if nat_eq i place then occurrences fact facts else 0)
+
+-- what the unary operators give, what they have open at the start, and who needs each fact
+pub record AreTables (relaxed : Lists) (gives : List ℕ) (opens : List Open) (needs : List (List ℕ)) : Type 0 where
+  pub unaries_below : IsTrue (list_all (is_unary_below relaxed.facts) relaxed.unaries)
+  pub gives_are : gives ≡ map (λ u. u.gives) relaxed.unaries
+  pub gives_below : IsTrue (are_below relaxed.facts gives)
+  pub opens_are : opens ≡ map open_at_start relaxed.unaries
+  pub needs_are : IsNeeds relaxed.unaries relaxed.facts needs
+  pub needs_long : length needs ≡ relaxed.facts + 1

@@ -42,7 +42,7 @@ pub struct Add {
 }
 
 impl Model for Add {
-    ghost use Rattle.h_add.specs.Ready.{IsReady};
+    ghost use Rattle.h_add.specs.UnderWay.{IsReady};
     ghost use Rattle.h_add.specs.Values.{Evaluator};
 
     ghost Value = { Evaluator };
@@ -192,6 +192,7 @@ impl Add {
 
     /// Whether some goal fact is never reached. Then no operators lead to a state where the goal
     /// holds.
+    #[tactic(auto, using(crate::specs::Laws::dead_of_all))]
     pub fn is_dead(&self) -> bool
         ensures exact { (parts : Parts) (kind : TheKind) (state : List ℕ) →
             IsRelaxed parts kind self.now.relaxed →

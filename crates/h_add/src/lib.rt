@@ -6,8 +6,6 @@
 
 mod add;
 mod evaluating;
-mod marking;
-mod needs;
 mod network;
 mod settling;
 mod sums;

@@ -1,19 +1,22 @@
-// The unary operators of a relaxation in flat tables.
+// The unary operators of a relaxation in flat tables, for each fact those that need it among them.
 ghost use Rattle.std.specs.Prelude.{◌≡◌, ◌+◌, ◌<◌, ◌≤◌, ◌^◌, ℕ, length, map, IfOk, IsTrue};
-ghost use Rattle.std.specs.Prelude.{slice_get, Some};
+ghost use Rattle.std.specs.Prelude.{slice_get, Some, ◌∷◌, ◌++◌, List, OnOk, slice_set, []};
+ghost use Rattle.std.specs.Prelude.{replicate};
 ghost use Rattle.std.specs.List.{list_all};
 ghost use Rattle.relaxed_task.specs.declared.unary.Unary.{Unary as TheUnary};
 ghost use Rattle.relaxed_task.specs.Numbers.{is_unary_below};
-ghost use Rattle.h_add.specs.Networks.{IsNeededBy, AreFree, are_within, open_at_start};
+ghost use Rattle.h_add.specs.Networks.{IsNeededBy, AreFree, open_at_start, IsNeeds, are_below};
+ghost use Rattle.h_add.specs.Networks.{needed, Listed};
+ghost use Rattle.h_add.specs.Orders.{are_places};
+ghost use Rattle.lama_num.specs.Rows.{row_at};
 
-use crate::needs::needs_of;
-use lama_num::{LARGEST_ESTIMATE, NoMemory, Rows};
+use lama_num::{LARGEST_ESTIMATE, NoMemory, Rows, Seq};
 use relaxed_task::{Relaxed, Unary};
 use std::alloc::{AllocError, Global};
 use std::marker::Model;
 
 /// The conditions of a unary operator that aren't reached yet, and what it costs with the others.
-#[derive(Clone, Copy, Debug)]
+#[derive(Clone, Copy)]
 pub struct Open {
     pub count: u32,
     pub sum: u32,
@@ -21,7 +24,7 @@ pub struct Open {
 
 /// A relaxation with its unary operators in tables, for loops over them. Contracts see the
 /// relaxation.
-#[derive(Debug, Drop)]
+#[derive(Drop)]
 pub struct Network {
     relaxed: Relaxed,
     /// What each gives.
@@ -37,7 +40,7 @@ impl Model for Network {
 
     ghost Value = { Lists };
 
-    ghost use Rattle.h_add.specs.Tables.{AreTables};
+    ghost use Rattle.h_add.specs.Networks.{AreTables};
 
     ghost view = { λ n. n.relaxed };
 
@@ -77,6 +80,7 @@ fn opens_of(alloc: Global, unaries: &[Unary]) -> Result<Vec<Open>, NoMemory>
 
 impl Network {
     /// The tables of a relaxation.
+    #[tactic(auto, using(crate::proofs::Growing::gives_below))]
     pub fn new(alloc: Global, relaxed: Relaxed) -> Result<Network, NoMemory>
         ensures { IfOk result (λ network. network ≡ relaxed) }
     {
@@ -115,15 +119,16 @@ impl Network {
     pub fn needs(&self, fact: usize) -> &[u32]
         requires { fact < self.now.facts }
         ensures needs { IsNeededBy self.now.unaries self.now.facts fact result.now }
-        ensures within { IsTrue (are_within (length self.now.unaries) result.now) }
+        ensures within { IsTrue (are_places (length self.now.unaries) result.now) }
     {
         self.needs.row(fact)
     }
 
     /// The unary operators without conditions.
+    #[tactic(auto, using(crate::proofs::Growing::free_of_needs))]
     pub fn free(&self) -> &[u32]
         ensures free { AreFree self.now.unaries result.now }
-        ensures within { IsTrue (are_within (length self.now.unaries) result.now) }
+        ensures within { IsTrue (are_places (length self.now.unaries) result.now) }
     {
         self.needs.row(self.relaxed.facts() as usize)
     }
@@ -135,4 +140,73 @@ impl Network {
     {
         opens.copy_from_slice(&self.opens);
     }
+}
+
+/// Adds a place to the list of each of some facts.
+fn add_to_all(lists: &mut [Seq<u32>], facts: &[u32], place: u32) -> Result<(), AllocError>
+    requires { IsTrue (are_below (length lists.old) facts.now) }
+    ensures { OnOk result (Listed lists.old lists.new facts.now place) }
+{
+    for fact in facts {
+        lists[*fact as usize].push(place)?;
+    }
+    Ok(())
+}
+
+fn no_lists(alloc: Global, facts: usize) -> Result<Vec<Seq<u32>>, AllocError>
+    ensures { IfOk result (λ v. v.items ≡ replicate facts []) }
+{
+    let mut lists = Vec::with_capacity(alloc, facts)?;
+    for _fact in 0..facts {
+        lists.push(Seq::new(alloc))?;
+    }
+    Ok(lists)
+}
+
+/// Adds a unary operator to the lists of what it needs: its conditions, or where it has none the
+/// fact that is always there.
+fn add_needs(
+    lists: &mut [Seq<u32>],
+    unary: &Unary,
+    always: u32,
+    place: u32,
+) -> Result<(), AllocError>
+    requires always { always < length lists.old }
+    requires facts { IsTrue (are_below (length lists.old) unary.now.conds) }
+    ensures { OnOk result (Listed lists.old lists.new (needed always unary.now.conds) place) }
+{
+    if unary.conds.is_empty() {
+        add_to_all(lists, &[always], place)
+    } else {
+        add_to_all(lists, &unary.conds, place)
+    }
+}
+
+/// Adds each unary operator to the lists of what it needs.
+#[tactic(auto, using(crate::proofs::Growing::needed_more))]
+fn add_each(lists: &mut [Seq<u32>], unaries: &[Unary], always: u32) -> Result<(), AllocError>
+    requires few { length unaries.now < 2 ^ 32 }
+    requires always { always < length lists.old }
+    requires facts { IsTrue (list_all (is_unary_below (length lists.old)) unaries.now) }
+    ensures needs { OnOk result (((fact : ℕ) → row_at lists.old fact ≡ []) →
+        IsNeeds unaries.now always lists.new) }
+    ensures long { length lists.new ≡ length lists.old }
+{
+    for (i, unary) in unaries.iter().enumerate() {
+        add_needs(lists, unary, always, i as u32)?;
+    }
+    Ok(())
+}
+
+/// The rows of so many facts, and behind them that of a fact which is always there: unary operators
+/// without conditions need it.
+fn needs_of(alloc: Global, unaries: &[Unary], facts: u32) -> Result<Rows<u32>, NoMemory>
+    requires few { length unaries.now < 2 ^ 32 }
+    requires facts { IsTrue (list_all (is_unary_below facts) unaries.now) }
+    ensures needs { IfOk result (λ rows. IsNeeds unaries.now facts rows) }
+    ensures long { IfOk result (λ rows. length rows ≡ facts + 1) }
+{
+    let mut lists = no_lists(alloc, facts as usize + 1)?;
+    add_each(&mut lists, unaries, facts)?;
+    Rows::from_lists(alloc, &lists)
 }

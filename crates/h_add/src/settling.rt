@@ -5,9 +5,9 @@ ghost use Rattle.std.specs.Prelude.{MatchOption};
 ghost use Rattle.std.specs.Bool.{OnTrue, OnFalse};
 ghost use Rattle.cost_queue.specs.Queues.{price_of, IsPopped, IsIdle};
 ghost use Rattle.relaxed_task.specs.declared.unary.Unary.{Unary};
-ghost use Rattle.h_add.specs.Networks.{are_within};
-ghost use Rattle.h_add.specs.Settlements.{is_settled, open_at, offered, counted, there_at};
-ghost use Rattle.h_add.specs.Settlements.{given_at};
+ghost use Rattle.h_add.specs.Orders.{are_places};
+ghost use Rattle.h_add.specs.UnderWay.{is_settled, open_at, offered, counted, there_at};
+ghost use Rattle.h_add.specs.UnderWay.{given_at};
 ghost use Rattle.h_add.specs.UnderWay.{IsUnderWay, IsSettling, IsLater, IsFresh, HasCounted, Owes};
 ghost use Rattle.h_add.specs.UnderWay.{left_to_do};
 
@@ -34,7 +34,7 @@ pub struct Settling {
 
 impl Model for Settling {
     ghost use Rattle.std.specs.Prelude.{vec_capacity};
-    ghost use Rattle.h_add.specs.Settlements.{Settlement, AreLevel};
+    ghost use Rattle.h_add.specs.UnderWay.{Settlement, AreLevel};
 
     ghost Value = { Settlement };
 
@@ -52,6 +52,7 @@ impl Model for Settling {
 
 impl Settling {
     /// Room for so many facts and unary operators.
+    #[tactic(auto, using(crate::proofs::Steps::few_unsettled))]
     pub fn new(alloc: Global, facts: usize, unaries: usize) -> Result<Settling, AllocError>
         ensures facts { IfOk result (λ s. length s.costs ≡ facts) }
         ensures unaries { IfOk result (λ s. length s.opens ≡ unaries) }
@@ -87,38 +88,15 @@ impl Settling {
     }
 
     /// Whether a fact is settled.
-    pub fn is_settled(&self, fact: usize) -> bool
-        ensures { result ≡ is_settled self.now fact }
+    pub fn is_settled(&self, number: usize) -> bool
+        requires { number < length self.now.costs }
+        ensures { result ≡ is_settled self.now number }
     {
-        match self.settled.get(fact) {
-            Some(settled) => *settled,
-            None => false,
-        }
-    }
-
-    /// Whether a fact that is there is settled.
-    fn has_settled(&self, fact: usize) -> bool
-        requires { fact < length self.now.costs }
-        ensures { result ≡ is_settled self.now fact }
-    {
-        self.settled[fact]
-    }
-
-    /// Whether there is a fact that isn't settled.
-    pub fn is_open(&self, fact: usize) -> bool
-        ensures there { result ≡ true → fact < length self.now.costs }
-        ensures new { result ≡ true → is_settled self.now fact ≡ false }
-        ensures old { fact < length self.now.costs → result ≡ false →
-            is_settled self.now fact ≡ true }
-        ensures facts { length self.now.settled ≡ length self.now.costs }
-    {
-        match self.settled.get(fact) {
-            Some(settled) => !*settled,
-            None => false,
-        }
+        self.settled[number]
     }
 
     /// Begins again: no fact is reached, and none is settled.
+    #[tactic(auto, using(crate::proofs::Steps::cleared))]
     pub fn clear(&mut self, network: &Network)
         requires { length self.old.opens ≡ length network.now.unaries }
         ensures fresh { IsFresh network.now.unaries self.new }
@@ -133,6 +111,7 @@ impl Settling {
     }
 
     /// Leaves a fact out, where it is there.
+    #[tactic(auto, using(crate::proofs::Steps::fewer_or_same))]
     pub fn leave_out(&mut self, fact: usize)
         ensures fresh { (unaries : List Unary) → IsFresh unaries self.old →
             IsFresh unaries self.new }
@@ -147,9 +126,11 @@ impl Settling {
     }
 
     /// Lets a fact be there at no cost.
+    #[tactic(auto, using(crate::proofs::Steps::fewer_or_same))]
     pub fn be_there(&mut self, fact: usize)
         requires fact { fact < length self.old.costs }
-        ensures { self.new ≡ there_at self.old fact }
+        ensures there { self.new ≡ there_at self.old fact }
+        ensures facts { length self.old.settled ≡ length self.old.costs }
     {
         self.costs[fact] = 0;
         self.settled[fact] = true;
@@ -196,6 +177,7 @@ impl Settling {
 
     /// Counts a fact of this cost among the conditions of a unary operator, which offers what it
     /// gives if it has no other open.
+    #[tactic(auto, using(crate::proofs::Counting::met_some, crate::proofs::Counting::met_all))]
     fn meet(&mut self, network: &Network, place: u32, value: u32)
         requires facts { network.now.facts ≡ length self.old.costs }
         requires place { place < length network.now.unaries }
@@ -212,9 +194,10 @@ impl Settling {
 
     /// Counts a fact of this cost among the conditions of several unary operators.
     #[inline(always)]
+    #[tactic(auto, using(crate::proofs::Counting::walks))]
     pub fn walk(&mut self, network: &Network, places: &[u32], value: u32)
         requires facts { network.now.facts ≡ length self.old.costs }
-        requires places { IsTrue (are_within (length network.now.unaries) places.now) }
+        requires places { IsTrue (are_places (length network.now.unaries) places.now) }
         requires way { IsUnderWay network.now.unaries value places.now self.old }
         ensures way { IsUnderWay network.now.unaries value [] self.new }
         ensures counted { HasCounted self.old self.new }
@@ -235,6 +218,7 @@ impl Settling {
     }
 
     /// Lets a unary operator settle the fact that it gives, which costs its price already.
+    #[tactic(auto, using(crate::proofs::Steps::fewer_unsettled))]
     fn give(&mut self, fact: usize, place: u32)
         requires fact { fact < length self.old.costs }
         requires new { is_settled self.old fact ≡ false }
@@ -260,7 +244,7 @@ impl Settling {
             return false;
         };
         let fact = network.gives(entry.number as usize) as usize;
-        if !self.has_settled(fact) {
+        if !self.is_settled(fact) {
             self.give(fact, entry.number);
             self.walk(network, network.needs(fact), entry.price);
         }

@@ -3,7 +3,7 @@ use Rattle.relaxed_task.specs.NumberLaws.{sum_by_number}
 use Rattle.relaxed_task.specs.Numbers.{costs_by}
 use Rattle.relaxed_task.specs.Relaxing.{sum_of}
 use Rattle.relaxed_task.specs.Facts.{distinct_facts}
-use Rattle.h_add.specs.Laws.{dead_by_goals, goals_of_all}
+use Rattle.h_add.specs.Laws.{dead_of_all}
 use Rattle.h_add.specs.Values.{value_at}
 use Rattle.h_add.proofs.add.Add.goal_value.Goals as goal
 
@@ -15,4 +15,4 @@ returns-clause-value c parts kind state without is evaluated = record {
 }
 
 pub returns-clause-dead : goal.returns-clause-dead
-returns-clause-dead c parts kind state is evaluated = dead_by_goals parts kind c.args.self.now.relaxed state c.args.self.now.costs c.goal_sum.result is (goals_of_all parts kind state c.args.self.now.costs is.well_formed evaluated) c.goal_sum.ensures
+returns-clause-dead c parts kind state is evaluated = dead_of_all parts kind _ state _ _ is evaluated c.goal_sum.ensures

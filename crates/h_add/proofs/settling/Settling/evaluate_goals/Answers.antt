@@ -1,11 +1,6 @@
-use Rattle.std.proofs.Common.{[]}
-use Rattle.h_add.proofs.Exact.{places_of, state_numbers_below, goals_evaluated}
+use Rattle.h_add.proofs.Steps.{goals_evaluated}
 use Rattle.h_add.proofs.settling.Settling.evaluate_goals.Goals as goal
 
 pub returns-clause-goals : goal.returns-clause-goals
 returns-clause-goals c parts kind is of =
-    let from = c.begin.ensures.from [] (state_numbers_below parts kind c.args.network.now c.args.state.now is of) c.clear.ensures.none in
-    goals_evaluated parts kind c.args.network.now c.args.state.now c.args.network.now.goals c.settle_goals.new.self is of c.settle_goals.ensures.goals c.settle_goals.ensures.later.way (c.settle_goals.ensures.later.from _ _ from)
-
-pub returns-clause-places : goal.returns-clause-places
-returns-clause-places c = places_of _ c.settle_goals.new.self c.settle_goals.ensures.later.way
+    goals_evaluated parts kind c.args.network.now c.args.state.now c.args.network.now.goals c.settle_goals.new.self is c.settle_goals.ensures.goals c.settle_goals.ensures.later.way (c.settle_goals.ensures.later.from _ _ (c.begin.ensures.from parts kind _ is of c.clear.ensures.none))

@@ -1,12 +1,11 @@
-use Rattle.std.proofs.Common.{◌<◌, ◌∙◌, ap, sym, ℕ, List, length, map, refl, arith}
+use Rattle.std.proofs.Common.{◌≡◌, true, ◌<◌, ◌∙◌, ap, sym, ℕ, List, length, map, arith}
 use Rattle.std.proofs.lemmas.List.{get_or-map, length-map, take_all}
 use Rattle.relaxed_task.specs.Numbers.{number_by, is_among}
+use Rattle.relaxed_task.specs.NumberLaws.{numbers_same, numbers_below}
+use Rattle.h_add.specs.Networks.{are_below}
 use Rattle.h_add.proofs.Growing.{below_at}
 use Rattle.h_add.proofs.Steps.{out_more}
 use Rattle.h_add.proofs.settling.Settling.leave_all_out.Goals as goal
-
-pub loop-fact-init : goal.loop-fact-init
-loop-fact-init c = record { fresh = λ unaries f. f; out = λ below none fact. none fact; long = refl }
 
 pub loop-fact-preserved : goal.loop-fact-preserved
 loop-fact-preserved c = record {
@@ -22,6 +21,8 @@ loop-fact-preserved c = record {
 }
 
 pub returns-clause-out : goal.returns-clause-out
-returns-clause-out c below none fact =
+returns-clause-out c parts kind is there none fact =
+    let same = numbers_same parts.variables c.args.network.now.offsets c.args.excluded.now is.offsets there in
+    let below : are_below (length c.args.self.now.costs) (map (number_by c.args.network.now.offsets) c.args.excluded.now) ≡ true = rw (← c.requires.facts, same, is.facts) (numbers_below parts.variables c.args.excluded.now there) in
     c.loop-fact.invariant.out below none fact
-    ∙ ap (λ (xs : List ℕ). is_among xs fact) (take_all c.loop-fact.fact-index (map (number_by c.args.network.now.offsets) c.args.excluded.now) (omega (arith, length-map c.args.excluded.now (number_by c.args.network.now.offsets))))
+    ∙ ap (λ (xs : List ℕ). is_among xs fact) (take_all c.loop-fact.fact-index (map (number_by c.args.network.now.offsets) c.args.excluded.now) (omega (arith, length-map c.args.excluded.now (number_by c.args.network.now.offsets))) ∙ same)

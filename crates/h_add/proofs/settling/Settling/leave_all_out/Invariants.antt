@@ -2,8 +2,7 @@ use Rattle.std.proofs.Common.{◌≡◌, ℕ, List, take, map, length, true, fal
 use Rattle.relaxed_task.specs.Numbers.{number_by, is_among}
 use Rattle.relaxed_task.specs.declared.unary.Unary.{Unary}
 use Rattle.h_add.specs.Networks.{are_below}
-use Rattle.h_add.specs.Settlements.{is_settled}
-use Rattle.h_add.specs.UnderWay.{IsFresh}
+use Rattle.h_add.specs.UnderWay.{is_settled, IsFresh}
 use Rattle.h_add.proofs.settling.Settling.leave_all_out.Given as goal
 
 abbrev pub invariant-loop-fact : goal.invariant-loop-fact

@@ -1,12 +1,17 @@
+use Rattle.std.proofs.Common.{◌∙◌, sym, ap, length, arith}
 use Rattle.h_add.proofs.Steps.{there_way, there_marked, old_marked}
 use Rattle.h_add.proofs.settling.Settling.mark.Goals as goal
+use Rattle.h_add.proofs.settling.Settling.mark.Goals.{else-fact-costs-via-then-fact-costs+else-not-is_settled, else-fact-costs-via-else-fact-costs}
 
 pub walk-requires-clause-way : goal.walk-requires-clause-way
 walk-requires-clause-way c =
-    there_way _ _ c.args.self.now c.be_there.new.self c.args.fact _ c.requires.facts c.is_open.ensures.facts (c.is_open.ensures.there c.if-is_open.true) (c.is_open.ensures.new c.if-is_open.true) c.be_there.ensures c.needs.ensures.needs c.requires.way
+    there_way _ _ c.args.self.now c.be_there.new.self c.args.fact _ c.requires.facts c.be_there.ensures.facts (omega (arith, ap length c.costs.ensures)) (sym c.is_settled.ensures ∙ c.if-not-is_settled.true) c.be_there.ensures.there c.needs.ensures.needs c.requires.way
 
-pub returns-then-is_open : goal.returns-then-is_open
-returns-then-is_open c = there_marked _ c.args.self.now _ _ c.args.fact c.is_open.ensures.facts (c.is_open.ensures.there c.if-is_open.true) (c.is_open.ensures.new c.if-is_open.true) c.be_there.ensures c.walk.ensures.way c.walk.ensures.counted
+pub returns-then-not-is_settled : goal.returns-then-not-is_settled
+returns-then-not-is_settled c = there_marked _ c.args.self.now _ _ c.args.fact c.be_there.ensures.facts (omega (arith, ap length c.costs.ensures)) (sym c.is_settled.ensures ∙ c.if-not-is_settled.true) c.be_there.ensures.there c.walk.ensures.way c.walk.ensures.counted
 
-pub returns-else-is_open : goal.returns-else-is_open
-returns-else-is_open c = old_marked _ c.args.self.now c.args.fact (λ within. c.is_open.ensures.old within c.if-is_open.false) c.requires.way
+pub returns-else-fact-costs : goal.returns-else-fact-costs
+returns-else-fact-costs c = old_marked _ c.args.self.now c.args.fact (λ within. elim c.else-fact-costs.branch [
+  | else-fact-costs-via-then-fact-costs+else-not-is_settled w ↦ sym w.is_settled.ensures ∙ w.if-not-is_settled.false
+  | else-fact-costs-via-else-fact-costs w ↦ absurd (omega (arith, ap length c.costs.ensures))
+]) c.requires.way

@@ -1,14 +1,8 @@
 use Rattle.std.proofs.Common.{◌∙◌, sym, arith}
 use Rattle.relaxed_task.specs.Numbers.{numbers_by}
 use Rattle.relaxed_task.specs.NumberLaws.{long_numbers, number_at}
-use Rattle.h_add.proofs.Steps.{none_marked, taken_marked, all_marked}
+use Rattle.h_add.proofs.Steps.{taken_marked, all_marked}
 use Rattle.h_add.proofs.settling.Settling.mark_state.Goals as goal
-
-pub loop-var-init : goal.loop-var-init
-loop-var-init c = none_marked _ _ c.requires.way
-
-pub mark-requires-clause-facts : goal.mark-requires-clause-facts
-mark-requires-clause-facts c = c.requires.facts ∙ sym c.loop-var.invariant.long
 
 pub loop-var-preserved : goal.loop-var-preserved
 loop-var-preserved c =

@@ -1,8 +1,5 @@
-use Rattle.h_add.proofs.Steps.{later_more, now_later}
+use Rattle.h_add.proofs.Steps.{later_more}
 use Rattle.h_add.proofs.settling.Settling.settle_all.Goals as goal
-
-pub steps-init : goal.steps-init
-steps-init c = now_later _ _ c.requires.way
 
 pub steps-preserved : goal.steps-preserved
 steps-preserved c = later_more _ _ _ _ c.steps.invariant c.steps-test.ensures.later

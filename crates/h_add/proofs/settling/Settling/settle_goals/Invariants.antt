@@ -1,7 +1,6 @@
 use Rattle.std.proofs.Common.{◌≡◌, take, true}
 use Rattle.std.specs.List.{list_all}
-use Rattle.h_add.specs.Settlements.{is_settled}
-use Rattle.h_add.specs.UnderWay.{IsLater}
+use Rattle.h_add.specs.UnderWay.{is_settled, IsLater}
 use Rattle.h_add.proofs.settling.Settling.settle_goals.Given as goal
 
 abbrev pub invariant-loop-goal : goal.invariant-loop-goal
