@@ -1,9 +1,7 @@
-//! Tests of the two outsides: real files and children, and those in memory.
+//! Tests of the real outside: files, children and the clock.
 #![tactic(auto)]
 
 #[cfg(test)]
 mod children;
 #[cfg(test)]
 mod files;
-#[cfg(test)]
-mod memory;

@@ -52,5 +52,8 @@ pub fn parts(alloc: Global, pre: &[Fact], cost: u32, head: Fact) -> Result<Parts
 
 /// The cause for which such parts are refused.
 pub fn refusal(alloc: Global, cost: u32, head: Fact) -> Result<Option<TaskError>, AllocError> {
-    Ok(check(parts(alloc, &[], cost, head)?).err())
+    match check(parts(alloc, &[], cost, head)?) {
+        Ok(_) => Ok(None),
+        Err(error) => Ok(Some(error)),
+    }
 }
