@@ -1,5 +1,5 @@
 // What an evaluator answers, as plain numbers, by functions that promise nothing, so that the proof
-// of a test has nothing to carry. Each big value is given up in a function of its own, at one place.
+// of a test has nothing to carry. Each big value is given up in one place.
 use h_add::Add;
 use lama_num::{Estimate, NoMemory};
 use sas_task::{CostKind, Fact, Task};

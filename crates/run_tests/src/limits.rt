@@ -55,7 +55,7 @@ fn limits_of_states(rt: HostRuntime) -> Result<(), Fail> {
 #[test]
 fn a_risen_cost_is_known_by_the_bound(rt: HostRuntime) -> Result<(), Fail> {
     let config = "lazy_greedy([ff()],cost_type=one,estimate=one,reopen_closed=true)";
-    let words = ["--bound", "12", "--search", config, "t.sas"];
+    let words = ["--search", config, "--bound", "12", "t.sas"];
     let told = tell_of(rt.alloc(), &words, risen_cost(), &plans(None, None, None))?;
     assert!(rt; told == finished(12, End::Unsolved, 1, [4, 0, 0], 4));
     Ok(())

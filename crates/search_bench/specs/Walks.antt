@@ -7,4 +7,4 @@ use Rattle.search_bench.specs.declared.walking.Room.{Room}
 pub record IsRoom (room : Room) (parts : Parts) : Type 0 where
   pub here_long : length room.here.items ≡ length parts.variables
   pub next_long : length room.next.items ≡ length parts.variables
-  pub room : length parts.operators ≤ vec_capacity room.applicable
+  pub wide : length parts.operators ≤ vec_capacity room.applicable

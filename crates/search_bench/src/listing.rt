@@ -18,7 +18,7 @@ struct Lists {
 }
 
 /// How many entries were put in, and how many came out.
-#[derive(Clone, Copy, Debug)]
+#[derive(Clone, Copy)]
 struct Counts {
     inserted: u64,
     popped: u64,

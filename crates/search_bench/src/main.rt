@@ -1,11 +1,12 @@
 //! Counts by which the crates below a search are timed: `search_bench KIND SIZE ROUNDS ..`.
 //!
-//! Each three words are a job. `lists` puts four entries a round under SIZE keys into open lists and
-//! takes them out again, `intern` looks three times for each of ROUNDS states of SIZE words, `walk`
-//! takes ROUNDS steps in the delivery task of SIZE packages, and `settle` settles ROUNDS states of a
-//! task with SIZE layers of a hundred rules. It prints a count for each, which is the same in each
-//! run: of the entries that came out, the states that were known, the applicable operators of all
-//! steps, and the variables that are 1 at the end. What a round takes is the difference of two runs.
+//! Each three words are a job. `lists` puts four entries a round under SIZE keys into open lists
+//! and takes them out again, `intern` looks three times for each of ROUNDS states of SIZE words,
+//! `walk` takes ROUNDS steps in the delivery task of SIZE packages, and `settle` settles ROUNDS
+//! states of a task with SIZE layers of a hundred rules. It prints a count for each, which is the
+//! same in each run: of the entries that came out, the states that were known, the applicable
+//! operators of all steps, and the variables that are 1 at the end. What a round takes is the
+//! difference of two runs.
 #![tactic(auto)]
 
 mod interning;
@@ -24,7 +25,7 @@ use std::rt::Env;
 use walking::walk_delivery;
 
 /// What a job is about.
-#[derive(Clone, Copy, Debug)]
+#[derive(Clone, Copy)]
 enum Kind {
     Lists,
     Intern,
@@ -32,7 +33,7 @@ enum Kind {
     Settle,
 }
 
-#[derive(Clone, Copy, Debug)]
+#[derive(Clone, Copy)]
 struct Job {
     kind: Kind,
     size: u32,

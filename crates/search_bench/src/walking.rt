@@ -2,8 +2,8 @@
 ghost use Rattle.std.specs.Prelude.{◌≡◌, IfOk, IfSome, IsTrue};
 ghost use Rattle.std.specs.List.{Contains};
 ghost use Rattle.state_step.specs.Steps.{is_applicable};
-ghost use Rattle.state_step.specs.Stepper as steps;
-ghost use Rattle.succ_gen.specs.Trees as trees;
+ghost use Rattle.state_step.specs.Stepper.{IsFor as IsStepperFor};
+ghost use Rattle.succ_gen.specs.Trees.{IsFor as IsTreeFor, applicable};
 ghost use Rattle.search_bench.specs.Walks.{IsRoom};
 
 use bench_tasks::{Costs, Failure, delivery};
@@ -50,21 +50,21 @@ impl Room {
 
     /// Finds the applicable operators.
     fn look(&mut self, tree: &mut Tree, task: &Task)
-        requires tree { trees.IsFor tree.old task.now }
+        requires tree { IsTreeFor tree.old task.now }
         requires room { IsRoom self.old task.now }
-        ensures tree { trees.IsFor tree.new task.now }
+        ensures tree { IsTreeFor tree.new task.now }
         ensures room { IsRoom self.new task.now }
-        ensures found { self.new.applicable.items ≡ trees.applicable task.now self.new.here.items }
+        ensures found { self.new.applicable.items ≡ applicable task.now self.new.here.items }
     {
         tree.applicable_into(task, &self.here, &mut self.applicable);
     }
 
     /// Goes on by an applicable operator.
     fn go_on(&mut self, stepper: &mut Stepper, task: &Task, op: u32)
-        requires stepper { steps.IsFor stepper.old task.now }
+        requires stepper { IsStepperFor stepper.old task.now }
         requires room { IsRoom self.old task.now }
         requires applicable { IsTrue (is_applicable task.now self.old.here.items op) }
-        ensures stepper { steps.IsFor stepper.new task.now }
+        ensures stepper { IsStepperFor stepper.new task.now }
         ensures room { IsRoom self.new task.now }
     {
         stepper.apply_into(task, &self.here, op, &mut self.next);
@@ -73,11 +73,11 @@ impl Room {
 
     /// A step by one of the applicable operators, and how many there were.
     fn step(&mut self, tree: &mut Tree, stepper: &mut Stepper, task: &Task, number: u32) -> usize
-        requires tree { trees.IsFor tree.old task.now }
-        requires stepper { steps.IsFor stepper.old task.now }
+        requires tree { IsTreeFor tree.old task.now }
+        requires stepper { IsStepperFor stepper.old task.now }
         requires room { IsRoom self.old task.now }
-        ensures tree { trees.IsFor tree.new task.now }
-        ensures stepper { steps.IsFor stepper.new task.now }
+        ensures tree { IsTreeFor tree.new task.now }
+        ensures stepper { IsStepperFor stepper.new task.now }
         ensures room { IsRoom self.new task.now }
     {
         self.look(tree, task);
@@ -96,8 +96,8 @@ fn scattered(step: u32) -> u32 {
 
 /// How many operators were applicable at so many steps together.
 fn walk_on(room: &mut Room, tree: &mut Tree, stepper: &mut Stepper, task: &Task, steps: u32) -> u64
-    requires tree { trees.IsFor tree.old task.now }
-    requires stepper { steps.IsFor stepper.old task.now }
+    requires tree { IsTreeFor tree.old task.now }
+    requires stepper { IsStepperFor stepper.old task.now }
     requires room { IsRoom room.old task.now }
 {
     let mut applicable = 0u64;
@@ -116,8 +116,8 @@ fn walk_from_start(
     task: &Task,
     steps: u32,
 ) -> Result<u64, NoMemory>
-    requires tree { trees.IsFor tree.old task.now }
-    requires stepper { steps.IsFor stepper.old task.now }
+    requires tree { IsTreeFor tree.old task.now }
+    requires stepper { IsStepperFor stepper.old task.now }
 {
     let mut room = Room::new(alloc, task)?;
     stepper.initial(task, &mut room.here);
@@ -125,7 +125,7 @@ fn walk_from_start(
 }
 
 fn walk_by_tree(alloc: Global, tree: &mut Tree, task: &Task, steps: u32) -> Result<u64, NoMemory>
-    requires { trees.IsFor tree.old task.now }
+    requires { IsTreeFor tree.old task.now }
 {
     match Stepper::new(alloc, task) {
         Ok(mut stepper) => walk_from_start(alloc, tree, &mut stepper, task, steps),

@@ -1,5 +1,4 @@
 // Derived variables: what settling makes of values, and what they become after an operator.
-use axiom_eval::Axioms;
 use lama_num::NoMemory;
 use sas_task::Task;
 use state_step::Stepper;

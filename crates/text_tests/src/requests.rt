@@ -6,7 +6,7 @@ use std::alloc::Global;
 
 /// The numbers that are asked for: the bound, the limit of time, that of memory, and how many tasks
 /// are to be made.
-#[derive(Clone, Copy, PartialEq, Eq)]
+#[derive(Clone, Copy)]
 struct Numbers {
     bound: Option<u64>,
     limit: Option<u64>,
