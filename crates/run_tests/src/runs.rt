@@ -180,11 +180,18 @@ fn words_of(alloc: Global, words: &[&str]) -> Result<Vec<String>, AllocError> {
     Ok(all)
 }
 
+fn moments(alloc: Global) -> Result<Vec<u64>, AllocError> {
+    let mut times = Vec::new(alloc);
+    times.push(7)?;
+    times.push(9)?;
+    Ok(times)
+}
+
 fn run_by(alloc: Global, words: &[&str], host: &mut MemHost) -> Result<Told, NoMemory>
     requires { (told_of host.old).busy ≡ [] }
 {
     let words = words_of(alloc, words)?;
-    let times = Vec::from_slice(alloc, &[7, 9])?;
+    let times = moments(alloc)?;
     run_at(alloc, &words, times, host)
 }
 

@@ -26,11 +26,11 @@ fn write(words: &mut [u64], number: u64) {
 }
 
 impl States {
-    /// None where there is no memory for the words.
-    fn of(alloc: Global, registry: Registry) -> Option<States> {
-        match vec![in alloc; 0; registry.layout().words()] {
-            Ok(words) => Some(States { registry, words }),
-            Err(_) => None,
+    fn of(alloc: Global, layout: Layout, most: u32) -> Result<States, NoMemory> {
+        let words = vec![in alloc; 0; layout.words()]?;
+        match Registry::new(alloc, layout, most) {
+            Ok(registry) => Ok(States { registry, words }),
+            Err(NoMemory) => Err(NoMemory),
         }
     }
 
@@ -63,16 +63,9 @@ fn three_times(states: &mut States, most: u32) -> Result<u64, NoMemory> {
     Ok(known)
 }
 
-fn look_in(alloc: Global, registry: Registry, most: u32) -> Result<u64, NoMemory> {
-    match States::of(alloc, registry) {
-        Some(mut states) => three_times(&mut states, most),
-        None => Err(NoMemory),
-    }
-}
-
 fn look_by(alloc: Global, layout: Layout, most: u32) -> Result<u64, NoMemory> {
-    match Registry::new(alloc, layout, most) {
-        Ok(registry) => look_in(alloc, registry, most),
+    match States::of(alloc, layout, most) {
+        Ok(mut states) => three_times(&mut states, most),
         Err(NoMemory) => Err(NoMemory),
     }
 }

@@ -142,7 +142,7 @@ pub fn followed(alloc: Global, text: &[u8], more: &[u8]) -> Result<Vec<u8>, Allo
 /// A text without its last byte.
 pub fn without_last(alloc: Global, text: &[u8]) -> Result<Vec<u8>, AllocError> {
     match text {
-        [front @ .., _last] => Vec::from_slice(alloc, front),
+        [front @ .., _last] => followed(alloc, front, b""),
         [] => Ok(Vec::new(alloc)),
     }
 }
