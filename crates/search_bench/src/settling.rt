@@ -10,9 +10,17 @@ use std::alloc::Global;
 
 /// Changes the first of the values.
 fn turn(values: &mut [u32]) {
-    if let Some(first) = values.first_mut() {
-        *first = u32::from(*first == 0);
+    if !values.is_empty() {
+        values[0] = u32::from(values[0] == 0);
     }
+}
+
+fn ones(values: &[u32]) -> u64 {
+    let mut ones = 0u64;
+    for value in values {
+        ones = ones.wrapping_add(u64::from(*value == 1));
+    }
+    ones
 }
 
 /// Settles so many states, of which each next one differs in the first value.
@@ -32,7 +40,7 @@ fn settled(alloc: Global, axioms: &mut Axioms, task: &Task, rounds: u32) -> Resu
 {
     let mut values = vec![in alloc; 1; task.parts().variables.len()]?;
     settle(axioms, task, &mut values, rounds);
-    Ok(values.iter().filter(|value| **value == 1).count() as u64)
+    Ok(ones(&values))
 }
 
 fn settled_in(alloc: Global, task: &Task, rounds: u32) -> Result<u64, NoMemory> {
