@@ -5,77 +5,129 @@ use lama_host::{Folder, Piece};
 use std::alloc::Global;
 use std::process::Processes;
 use std::rt::Files;
-use std::test::Fail;
 
 /// Whether a read from a place gives these bytes, of at most eight.
-fn reads<R: Files + Processes>(alloc: Global, rt: &R, name: &str, start: u64, want: &[u8]) -> bool {
+fn reads<R: Files + Processes>(
+    host: &mut RealHost<'_, R>,
+    name: &str,
+    start: u64,
+    want: &[u8],
+) -> bool {
     let mut buf = [0u8; 8];
-    match RealHost::new(alloc, rt).read_some(name, start, &mut buf) {
+    match host.read_some(name, start, &mut buf) {
         Ok(Piece::Bytes(n)) => &buf[..n] == want,
         _ => false,
     }
 }
 
-fn is_missing<R: Files + Processes>(alloc: Global, rt: &R, name: &str) -> bool {
+fn is_missing<R: Files + Processes>(host: &mut RealHost<'_, R>, name: &str) -> bool {
     let mut buf = [0u8; 8];
-    RealHost::new(alloc, rt).read_some(name, 0, &mut buf) == Ok(Piece::Missing)
+    host.read_some(name, 0, &mut buf) == Ok(Piece::Missing)
 }
 
-fn appends<R: Files + Processes>(alloc: Global, rt: &R, name: &str, piece: &[u8]) -> bool {
-    RealHost::new(alloc, rt).append(name, piece).is_ok()
+fn appends<R: Files + Processes>(host: &mut RealHost<'_, R>, name: &str, piece: &[u8]) -> bool {
+    host.append(name, piece).is_ok()
 }
 
-fn creates<R: Files + Processes>(alloc: Global, rt: &R, name: &str) -> bool {
-    RealHost::new(alloc, rt).create(name).is_ok()
+fn creates<R: Files + Processes>(host: &mut RealHost<'_, R>, name: &str) -> bool {
+    host.create(name).is_ok()
+}
+
+fn removes<R: Files + Processes>(host: &mut RealHost<'_, R>, name: &str) -> bool {
+    host.remove(name).is_ok()
 }
 
 fn renames<R: Files + Processes>(alloc: Global, rt: &R, old: &str, new: &str) -> bool {
     RealHost::new(alloc, rt).rename(old, new).is_ok()
 }
 
-fn removes<R: Files + Processes>(alloc: Global, rt: &R, name: &str) -> bool {
-    RealHost::new(alloc, rt).remove(name).is_ok()
+fn is_written<R: Files + Processes>(host: &mut RealHost<'_, R>) -> bool {
+    appends(host, "made", b"one")
+        && appends(host, "made", b"two")
+        && reads(host, "made", 0, b"onetwo")
+        && reads(host, "made", 4, b"wo")
+        && reads(host, "made", 6, b"")
+        && reads(host, "made", 9, b"")
+        && appends(host, "new", b"new")
+}
+
+fn is_renamed<R: Files + Processes>(host: &mut RealHost<'_, R>) -> bool {
+    is_missing(host, "made") && reads(host, "new", 0, b"onetwo")
 }
 
 #[test]
-fn a_file_is_written_renamed_and_removed(rt: HostRuntime) -> Result<(), Fail> {
+fn a_file_is_written_and_renamed(rt: HostRuntime) {
     let alloc = rt.alloc();
-    assert!(rt; appends(alloc, &rt, "made", b"one") && appends(alloc, &rt, "made", b"two"));
-    assert!(rt; reads(alloc, &rt, "made", 0, b"onetwo") && reads(alloc, &rt, "made", 4, b"wo"));
-    assert!(rt; reads(alloc, &rt, "made", 6, b"") && reads(alloc, &rt, "made", 9, b""));
-    assert!(rt; appends(alloc, &rt, "old", b"old") && renames(alloc, &rt, "made", "old"));
-    assert!(rt; is_missing(alloc, &rt, "made") && reads(alloc, &rt, "old", 0, b"onetwo"));
-    assert!(rt; creates(alloc, &rt, "old") && reads(alloc, &rt, "old", 0, b""));
-    assert!(rt; removes(alloc, &rt, "old") && removes(alloc, &rt, "old"));
-    assert!(rt; is_missing(alloc, &rt, "old"));
-    Ok(())
+    assert!(rt; is_written(&mut RealHost::new(alloc, &rt)));
+    assert!(rt; renames(alloc, &rt, "made", "new"));
+    assert!(rt; is_renamed(&mut RealHost::new(alloc, &rt)));
+}
+
+fn is_made_again_and_removed<R: Files + Processes>(host: &mut RealHost<'_, R>) -> bool {
+    appends(host, "old", b"old")
+        && creates(host, "old")
+        && reads(host, "old", 0, b"")
+        && removes(host, "old")
+        && removes(host, "old")
+        && is_missing(host, "old")
 }
 
 #[test]
-fn names_with_odd_bytes(rt: HostRuntime) -> Result<(), Fail> {
-    let alloc = rt.alloc();
-    for name in ["a b", "-x", "it's", "\u{fc}\n", "$(x)"] {
-        assert!(rt; appends(alloc, &rt, name, b"1") && reads(alloc, &rt, name, 0, b"1"));
-        assert!(rt; removes(alloc, &rt, name) && is_missing(alloc, &rt, name));
-    }
-    Ok(())
+fn a_file_is_made_again_and_removed(rt: HostRuntime) {
+    assert!(rt; is_made_again_and_removed(&mut RealHost::new(rt.alloc(), &rt)));
+}
+
+/// Whether a file of this name is written, read and removed.
+fn may_be_a_name<R: Files + Processes>(host: &mut RealHost<'_, R>, name: &str) -> bool {
+    appends(host, name, b"1")
+        && reads(host, name, 0, b"1")
+        && removes(host, name)
+        && is_missing(host, name)
+}
+
+fn may_be_odd<R: Files + Processes>(host: &mut RealHost<'_, R>) -> bool {
+    may_be_a_name(host, "a b")
+        && may_be_a_name(host, "-x")
+        && may_be_a_name(host, "it's")
+        && may_be_a_name(host, "\u{fc}\n")
+        && may_be_a_name(host, "$(x)")
+}
+
+#[test]
+fn names_with_odd_bytes(rt: HostRuntime) {
+    assert!(rt; may_be_odd(&mut RealHost::new(rt.alloc(), &rt)));
 }
 
 const PLANTED: &str =
     "mkfifo pipe && printf kept > target && ln -s target link && ln -s loop loop && \
      mkdir empty full && touch full/x";
 
+/// Whether what stands under names that are no files is no file to a read.
+fn are_missing<R: Files + Processes>(host: &mut RealHost<'_, R>) -> bool {
+    is_missing(host, "pipe")
+        && is_missing(host, "link")
+        && is_missing(host, "loop")
+        && is_missing(host, "empty")
+        && is_missing(host, "full")
+}
+
+/// Whether a link, a FIFO and a link to itself make way for a file.
+fn make_way<R: Files + Processes>(host: &mut RealHost<'_, R>) -> bool {
+    creates(host, "link")
+        && reads(host, "link", 0, b"")
+        && reads(host, "target", 0, b"kept")
+        && appends(host, "pipe", b"x")
+        && reads(host, "pipe", 0, b"x")
+        && removes(host, "loop")
+        && !removes(host, "full")
+}
+
 #[test]
-fn what_a_child_may_leave(rt: HostRuntime) -> Result<(), Fail> {
+fn what_a_child_may_leave(rt: HostRuntime) {
     let alloc = rt.alloc();
-    assert!(rt; succeeds(alloc, &rt, PLANTED)?);
-    for name in ["pipe", "link", "loop", "empty", "full"] {
-        assert!(rt; is_missing(alloc, &rt, name), "{name}");
-    }
-    assert!(rt; creates(alloc, &rt, "link") && reads(alloc, &rt, "link", 0, b""));
-    assert!(rt; reads(alloc, &rt, "target", 0, b"kept"));
-    assert!(rt; appends(alloc, &rt, "pipe", b"x") && reads(alloc, &rt, "pipe", 0, b"x"));
-    assert!(rt; renames(alloc, &rt, "target", "empty") && reads(alloc, &rt, "empty", 0, b"kept"));
-    assert!(rt; removes(alloc, &rt, "loop") && !removes(alloc, &rt, "full"));
-    Ok(())
+    assert!(rt; succeeds(alloc, &rt, PLANTED));
+    assert!(rt; are_missing(&mut RealHost::new(alloc, &rt)));
+    assert!(rt; make_way(&mut RealHost::new(alloc, &rt)));
+    assert!(rt; renames(alloc, &rt, "target", "empty"));
+    assert!(rt; reads(&mut RealHost::new(alloc, &rt), "empty", 0, b"kept"));
 }

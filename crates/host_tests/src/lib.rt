@@ -1,4 +1,4 @@
-//! Tests of the two outsides: real files and children, and those in memory.
+//! Tests of the real outside: files, children and the clock; and of the clock and sink in memory.
 #![tactic(auto)]
 
 #[cfg(test)]

@@ -1,6 +1,8 @@
-//! Tests of plan files: as texts, and judged.
+//! Tests of plan files: as texts, judged, and as those that a child left.
 #![tactic(auto)]
 
+#[cfg(test)]
+mod collecting;
 #[cfg(test)]
 mod tasks;
 #[cfg(test)]

@@ -1,5 +1,8 @@
 // Tasks with operators of one name.
+use lama_num::Seq;
+use sas_task::{Fact, Operator, Parts, Task, Variable};
 use std::alloc::{AllocError, Global};
+use test_tasks::{fact, giving, task_of, variable};
 
 /// A variable is set by either of two operators `go`, at a cost of 2 or of 3.
 pub fn same_names_costs() -> &'static str {
@@ -44,81 +47,111 @@ end_operator
 "
 }
 
-/// Adds a number below 20.
-fn add_number(text: &mut Vec<u8>, n: u32) -> Result<(), AllocError> {
-    if n >= 10 {
-        text.push(b'1')?;
+/// How many switches there are.
+const SWITCHES: u32 = 17;
+
+/// An operator that sets a switch to a value. The name of all that set it is one letter.
+fn setting(alloc: Global, switch: u32, value: u32) -> Result<Operator, AllocError> {
+    let mut operator = giving(alloc, &[], fact(switch, value), 1)?;
+    operator.name.push(b'a' + (switch % 26) as u8)?;
+    Ok(operator)
+}
+
+fn operators(alloc: Global) -> Result<Seq<Operator>, AllocError> {
+    let mut operators = Seq::new(alloc);
+    for switch in 0..SWITCHES {
+        operators.push(setting(alloc, switch, 1)?)?;
+        operators.push(setting(alloc, switch, 0)?)?;
     }
-    text.push(b'0' + (n % 10) as u8)?;
-    Ok(())
+    Ok(operators)
 }
 
-/// Adds an operator of a switch, which sets it to 0 or to 1.
-fn add_operator(text: &mut Vec<u8>, i: u32, value: u32) -> Result<(), AllocError> {
-    text.extend_from_slice(b"begin_operator\na")?;
-    add_number(text, i)?;
-    text.extend_from_slice(b"\n0\n1\n0 ")?;
-    add_number(text, i)?;
-    text.extend_from_slice(b" -1 ")?;
-    add_number(text, value)?;
-    text.extend_from_slice(b"\n1\nend_operator\n")
-}
-
-fn add_goal(text: &mut Vec<u8>, i: u32) -> Result<(), AllocError> {
-    add_number(text, i)?;
-    text.extend_from_slice(b" 1\n")
-}
-
-/// Adds the variables, the initial state and the goal of seventeen switches.
-fn add_switches(text: &mut Vec<u8>) -> Result<(), AllocError> {
-    for _ in 0..17u32 {
-        text.extend_from_slice(b"begin_variable\nx\n-1\n2\nAtom x(0)\nAtom x(1)\nend_variable\n")?;
+fn variables(alloc: Global) -> Result<Seq<Variable>, AllocError> {
+    let mut variables = Seq::new(alloc);
+    for _ in 0..SWITCHES {
+        variables.push(variable(alloc, None, 2)?)?;
     }
-    text.extend_from_slice(b"0\nbegin_state\n")?;
-    for _ in 0..17u32 {
-        text.extend_from_slice(b"0\n")?;
-    }
-    text.extend_from_slice(b"end_state\nbegin_goal\n17\n")?;
-    for i in 0..17u32 {
-        add_goal(text, i)?;
-    }
-    text.extend_from_slice(b"end_goal\n")
+    Ok(variables)
 }
 
-/// Adds the task of seventeen variables, each of which two operators of one name set to 1 and to 0.
-fn add_task(text: &mut Vec<u8>) -> Result<(), AllocError> {
-    text.extend_from_slice(b"begin_version\n3\nend_version\nbegin_metric\n0\nend_metric\n17\n")?;
-    add_switches(text)?;
-    text.extend_from_slice(b"34\n")?;
-    for i in 0..17u32 {
-        add_operator(text, i, 1)?;
-        add_operator(text, i, 0)?;
+fn init(alloc: Global) -> Result<Seq<u32>, AllocError> {
+    let mut init = Seq::new(alloc);
+    for _ in 0..SWITCHES {
+        init.push(0)?;
     }
-    text.extend_from_slice(b"0\n")
+    Ok(init)
 }
 
-/// The text of that task.
-pub fn seventeen_switches(alloc: Global) -> Result<Vec<u8>, AllocError> {
-    let mut text = Vec::new(alloc);
-    add_task(&mut text)?;
-    Ok(text)
-}
-
-/// Adds the names of so many switches as steps, and their cost.
-fn add_steps(text: &mut Vec<u8>, count: u32) -> Result<(), AllocError> {
-    for i in 0..count {
-        text.extend_from_slice(b"(a")?;
-        add_number(text, i)?;
-        text.extend_from_slice(b")\n")?;
+/// All switches are 1.
+fn goal(alloc: Global) -> Result<Seq<Fact>, AllocError> {
+    let mut goal = Seq::new(alloc);
+    for switch in 0..SWITCHES {
+        goal.push(fact(switch, 1))?;
     }
-    text.extend_from_slice(b"; cost = ")?;
-    add_number(text, count)?;
-    text.extend_from_slice(b" (unit cost)\n")
+    Ok(goal)
 }
 
-/// A plan file with the names of so many switches, in order.
-pub fn switched(alloc: Global, count: u32) -> Result<Vec<u8>, AllocError> {
-    let mut text = Vec::new(alloc);
-    add_steps(&mut text, count)?;
-    Ok(text)
+fn parts(alloc: Global) -> Result<Parts, AllocError> {
+    Ok(Parts {
+        metric: false,
+        variables: variables(alloc)?,
+        groups: Seq::new(alloc),
+        init: init(alloc)?,
+        goal: goal(alloc)?,
+        operators: operators(alloc)?,
+        rules: Seq::new(alloc),
+    })
+}
+
+/// The task of seventeen switches, each of which two operators of one name set to 1 and to 0.
+pub fn seventeen_switches(alloc: Global) -> Option<Task> {
+    match parts(alloc) {
+        Ok(parts) => task_of(parts),
+        Err(AllocError) => None,
+    }
+}
+
+/// A plan file with the names of sixteen switches, in order.
+pub fn sixteen_steps() -> &'static str {
+    "(a)
+(b)
+(c)
+(d)
+(e)
+(f)
+(g)
+(h)
+(i)
+(j)
+(k)
+(l)
+(m)
+(n)
+(o)
+(p)
+; cost = 16 (unit cost)
+"
+}
+
+/// The same of all switches.
+pub fn seventeen_steps() -> &'static str {
+    "(a)
+(b)
+(c)
+(d)
+(e)
+(f)
+(g)
+(h)
+(i)
+(j)
+(k)
+(l)
+(m)
+(n)
+(o)
+(p)
+(q)
+; cost = 17 (unit cost)
+"
 }

@@ -1,141 +1,161 @@
-// Plan files as texts: what is written, and what is read of texts from outside.
+// Plan files as texts: what is written, what is read of texts from outside, and why these are
+// refused.
 use lama_num::Seq;
 use plan_text::{PlanLines, PlanTextError, PlanTextFault, lines, write};
-use sas_reader::read;
 use sas_task::Task;
 use std::alloc::Global;
-use std::process::Abort;
-use std::test::Fail;
-use test_tasks::{at_the_goal, three_places};
+use test_tasks::{at_the_goal, read_task, three_places};
 
 /// Whether the first two steps of a task of three operators are written so.
-fn steps_are(alloc: Global, task: &Task, want: &[u8]) -> Result<bool, Fail> {
+fn steps_are(alloc: Global, task: &Task, want: &[u8]) -> bool {
     if task.parts().operators.len() != 3 {
-        return Ok(false);
+        return false;
     }
-    let text = write(alloc, task, &[0, 1])?;
-    Ok(text.as_slice() == want)
+    match write(alloc, task, &[0, 1]) {
+        Ok(text) => text.as_slice() == want,
+        Err(_) => false,
+    }
 }
 
 /// The same of the task that a text tells.
-fn are_written(alloc: Global, task: &[u8], want: &[u8]) -> Result<bool, Fail> {
-    let task = read(alloc, task)?;
-    steps_are(alloc, &task, want)
+fn are_written(alloc: Global, text: &str, want: &[u8]) -> bool {
+    match read_task(alloc, text) {
+        Some(task) => steps_are(alloc, &task, want),
+        None => false,
+    }
 }
 
 #[test]
-fn two_steps_are_written(rt: HostRuntime) -> Result<(), Fail> {
+fn two_steps_are_written(rt: HostRuntime) {
     let alloc = rt.alloc();
-    let general: &[u8] = b"(go01)\n(go12)\n; cost = 2 (general cost)\n";
-    let unit: &[u8] = b"(go01)\n(go12)\n; cost = 2 (unit cost)\n";
-    assert!(rt; general.len() == 40);
-    assert!(rt; are_written(alloc, three_places().as_bytes(), general)?);
-    assert!(rt; are_written(alloc, at_the_goal().as_bytes(), unit)?);
-    Ok(())
+    assert!(rt;
+        are_written(
+            alloc,
+            three_places(),
+            b"(go01)\n(go12)\n; cost = 2 (general cost)\n"
+        )
+    );
+    assert!(rt;
+        are_written(
+            alloc,
+            at_the_goal(),
+            b"(go01)\n(go12)\n; cost = 2 (unit cost)\n"
+        )
+    );
 }
 
-fn are_names(names: &[Seq<u8>], want: &[&[u8]]) -> bool {
-    names.len() == want.len()
-        && names
-            .iter()
-            .zip(want)
-            .all(|(name, text)| name.as_slice() == *text)
+fn are_two_steps(names: &[Seq<u8>]) -> bool {
+    match names {
+        [first, second] => {
+            first.as_slice() == b"go01".as_slice() && second.as_slice() == b"go12".as_slice()
+        }
+        _ => false,
+    }
 }
 
 fn is_two_steps(lines: &PlanLines, unit: bool) -> bool {
-    are_names(&lines.names, &[b"go01", b"go12"]) && lines.cost == 2 && lines.unit == unit
+    are_two_steps(&lines.names) && lines.cost == 2 && lines.unit == unit
+}
+
+/// Whether a text tells two steps of the cost 2, of this kind.
+fn is_read(alloc: Global, text: &[u8], unit: bool) -> bool {
+    match lines(alloc, text) {
+        Ok(lines) => is_two_steps(&lines, unit),
+        Err(_) => false,
+    }
 }
 
 #[test]
-fn two_steps_are_read(rt: HostRuntime) -> Result<(), Fail> {
-    let texts: [(&[u8], bool); 6] = [
-        (b"(go01)\n(go12)\n; cost = 2 (general cost)\n", false),
-        (b"(go01)\n(go12)\n; cost = 2 (general cost)", false),
-        (b"( go01 )\n(go12)\n; cost = 2 (unit cost)\n", true),
-        (b"\t(go01) \r\n(go12\t)\r\n; cost = 2 (unit cost)\r\n", true),
-        (b"(go01)\n(go12)\n; cost = 0002 (unit cost)\n\n \n", true),
-        (b"(go01)\n(go12)\n; cost = 2\t(general cost)\n", false),
-    ];
-    for (text, unit) in texts {
-        let found = lines(rt.alloc(), text)?;
-        assert!(rt; is_two_steps(&found, unit), "{text:?}");
-    }
-    Ok(())
+fn two_steps_are_read(rt: HostRuntime) {
+    let alloc = rt.alloc();
+    assert!(rt; is_read(alloc, b"(go01)\n(go12)\n; cost = 2 (general cost)\n", false));
+    assert!(rt; is_read(alloc, b"(go01)\n(go12)\n; cost = 2 (general cost)", false));
+    assert!(rt; is_read(alloc, b"( go01 )\n(go12)\n; cost = 2 (unit cost)\n", true));
+    assert!(rt;
+        is_read(
+            alloc,
+            b"\t(go01) \r\n(go12\t)\r\n; cost = 2 (unit cost)\r\n",
+            true
+        )
+    );
+    assert!(rt;
+        is_read(
+            alloc,
+            b"(go01)\n(go12)\n; cost = 0002 (unit cost)\n\n \n",
+            true
+        )
+    );
+    assert!(rt;
+        is_read(
+            alloc,
+            b"(go01)\n(go12)\n; cost = 2\t(general cost)\n",
+            false
+        )
+    );
 }
 
-fn is_refused(found: Result<PlanLines, PlanTextError>, fault: PlanTextFault) -> bool {
-    match found {
+fn is_refused(alloc: Global, text: &[u8], fault: PlanTextFault) -> bool {
+    match lines(alloc, text) {
         Ok(_) => false,
-        Err(e) => e == PlanTextError::Bad(fault),
+        Err(error) => error == PlanTextError::Bad(fault),
     }
 }
 
-fn expect_refusals(
-    rt: &impl Abort,
-    alloc: Global,
-    texts: &[(&[u8], PlanTextFault)],
-) -> Result<(), Fail> {
-    for (text, fault) in texts {
-        let found = lines(alloc, text);
-        assert!(rt; is_refused(found, *fault), "{text:?}");
+fn is_cut_short(alloc: Global, text: &[u8]) -> bool {
+    is_refused(alloc, text, PlanTextFault::CutShort)
+}
+
+fn is_bad_at(alloc: Global, text: &[u8], line: u64) -> bool {
+    is_refused(alloc, text, PlanTextFault::BadLine { line })
+}
+
+#[test]
+fn texts_that_end_early_are_refused(rt: HostRuntime) {
+    let alloc = rt.alloc();
+    assert!(rt; is_cut_short(alloc, b""));
+    assert!(rt; is_cut_short(alloc, b"(go01)\n(go1"));
+    assert!(rt; is_cut_short(alloc, b"(go01)\n(go12)\n"));
+    assert!(rt; is_cut_short(alloc, b"(go01)\n  "));
+    assert!(rt; is_bad_at(alloc, b"(go01)\n(go1\n", 2));
+}
+
+#[test]
+fn other_lines_are_refused(rt: HostRuntime) {
+    let alloc = rt.alloc();
+    assert!(rt; is_bad_at(alloc, b"(jump)\n; cost = 5 (general cost)\nx\n", 3));
+    assert!(rt; is_bad_at(alloc, b"(jump)\n; cost = 5 (unit cost)\n\n(jump)\n", 4));
+    assert!(rt; is_bad_at(alloc, b"(jump)\n\n; cost = 5 (general cost)\n", 2));
+    assert!(rt; is_bad_at(alloc, b"; cost = 5  (general cost)\n", 1));
+    assert!(rt; is_bad_at(alloc, b"; cost =  (general cost)\n", 1));
+    assert!(rt; is_bad_at(alloc, b"(\n", 1));
+}
+
+fn has_bad_cost(alloc: Global, text: &[u8]) -> bool {
+    is_refused(alloc, text, PlanTextFault::BadCost)
+}
+
+fn has_cost(alloc: Global, text: &[u8], cost: u64) -> bool {
+    match lines(alloc, text) {
+        Ok(lines) => lines.cost == cost,
+        Err(_) => false,
     }
-    Ok(())
 }
 
 #[test]
-fn texts_that_end_early_are_refused(rt: HostRuntime) -> Result<(), Fail> {
-    let texts: [(&[u8], PlanTextFault); 5] = [
-        (b"", PlanTextFault::CutShort),
-        (b"(go01)\n(go1", PlanTextFault::CutShort),
-        (b"(go01)\n(go12)\n", PlanTextFault::CutShort),
-        (b"(go01)\n  ", PlanTextFault::CutShort),
-        (b"(go01)\n(go1\n", PlanTextFault::BadLine { line: 2 }),
-    ];
-    expect_refusals(&rt, rt.alloc(), &texts)
-}
-
-#[test]
-fn other_lines_are_refused(rt: HostRuntime) -> Result<(), Fail> {
-    let texts: [(&[u8], PlanTextFault); 6] = [
-        (
-            b"(jump)\n; cost = 5 (general cost)\nx\n",
-            PlanTextFault::BadLine { line: 3 },
-        ),
-        (
-            b"(jump)\n; cost = 5 (unit cost)\n\n(jump)\n",
-            PlanTextFault::BadLine { line: 4 },
-        ),
-        (
-            b"(jump)\n\n; cost = 5 (general cost)\n",
-            PlanTextFault::BadLine { line: 2 },
-        ),
-        (
-            b"; cost = 5  (general cost)\n",
-            PlanTextFault::BadLine { line: 1 },
-        ),
-        (
-            b"; cost =  (general cost)\n",
-            PlanTextFault::BadLine { line: 1 },
-        ),
-        (b"(\n", PlanTextFault::BadLine { line: 1 }),
-    ];
-    expect_refusals(&rt, rt.alloc(), &texts)
-}
-
-#[test]
-fn the_cost_has_64_bits(rt: HostRuntime) -> Result<(), Fail> {
-    let texts: [(&[u8], PlanTextFault); 2] = [
-        (
-            b"(jump)\n; cost = 99999999999999999999 (general cost)\n",
-            PlanTextFault::BadCost,
-        ),
-        (
-            b"; cost = 18446744073709551616 (unit cost)\nx\n",
-            PlanTextFault::BadCost,
-        ),
-    ];
-    expect_refusals(&rt, rt.alloc(), &texts)?;
-    let found = lines(rt.alloc(), b"; cost = 18446744073709551615 (unit cost)\n")?;
-    assert_eq!(rt; found.cost, u64::MAX);
-    Ok(())
+fn the_cost_has_64_bits(rt: HostRuntime) {
+    let alloc = rt.alloc();
+    assert!(rt;
+        has_bad_cost(
+            alloc,
+            b"(jump)\n; cost = 99999999999999999999 (general cost)\n"
+        )
+    );
+    assert!(rt; has_bad_cost(alloc, b"; cost = 18446744073709551616 (unit cost)\nx\n"));
+    assert!(rt;
+        has_cost(
+            alloc,
+            b"; cost = 18446744073709551615 (unit cost)\n",
+            u64::MAX
+        )
+    );
 }

@@ -17,7 +17,7 @@ use std::io::{self, Print};
 use std::rt::Env;
 
 /// What is measured: a size, how many evaluations, and what operators cost.
-#[derive(Clone, Copy, Debug)]
+#[derive(Clone, Copy)]
 struct Measured {
     packages: u32,
     additive: u32,
@@ -61,22 +61,28 @@ fn ff(alloc: Global, task: &Task, times: u32) -> Result<Estimate, Failure> {
     Ok(value)
 }
 
+/// The cost; the largest number in place of an infinite one.
+fn plain(estimate: Estimate) -> u32 {
+    match estimate {
+        Estimate::Finite(cost) => cost,
+        Estimate::Infinite => u32::MAX,
+    }
+}
+
 fn print_estimates(
     rt: &impl Print,
     operators: usize,
-    additive: Estimate,
-    ff: Estimate,
+    additive: u32,
+    ff: u32,
 ) -> Result<(), io::Error> {
-    println!(rt; "operators {operators}")?;
-    println!(rt; "additive {additive:?}")?;
-    println!(rt; "ff {ff:?}")
+    println!(rt; "operators {operators}, additive {additive}, ff {ff}")
 }
 
 fn measure_on(rt: &(impl Print + AllocGlobal), task: &Task, work: Measured) -> Result<(), Failure> {
     let operators = task.parts().operators.len();
     let additive = additive(rt.alloc(), task, work.additive)?;
     let ff = ff(rt.alloc(), task, work.ff)?;
-    Ok(print_estimates(rt, operators, additive, ff)?)
+    Ok(print_estimates(rt, operators, plain(additive), plain(ff))?)
 }
 
 fn measure(rt: &(impl Print + AllocGlobal), work: Measured) -> Result<(), Failure> {

@@ -2,14 +2,12 @@
 ghost use Rattle.std.specs.Prelude.{◌≡◌, [], IfOk};
 ghost use Rattle.host_mem.specs.Memory.{told_of};
 
-use driver_run::{Whole, read_whole};
 use host_mem::{Fail as Failing, HostCall, MemHost, named};
 use lama_num::Seq;
 use std::alloc::{AllocError, Global};
-use std::test::Fail;
 
 /// A name, and the text that it holds, where it is there.
-#[derive(Clone, Copy, Debug)]
+#[derive(Clone, Copy)]
 pub struct File<'a> {
     pub name: &'a str,
     pub text: Option<&'a str>,
@@ -131,34 +129,4 @@ pub fn folder(
         Ok(files) => Ok(MemHost::new(alloc, files, Vec::new(alloc), failing)),
         Err(error) => Err(error),
     }
-}
-
-fn is_five(whole: Whole) -> bool {
-    match whole {
-        Whole::Bytes(bytes) => bytes.as_slice() == b"12345".as_slice(),
-        _ => false,
-    }
-}
-
-/// Whether the file of five bytes is read whole where so many bytes may be read.
-fn reads_five(alloc: Global, host: MemHost, most: u64) -> bool {
-    let mut host = host;
-    match read_whole(alloc, &mut host, "t.sas", most) {
-        Ok(whole) => is_five(whole),
-        Err(_) => false,
-    }
-}
-
-#[test]
-fn whole_files(rt: HostRuntime) -> Result<(), Fail> {
-    let host = folder(rt.alloc(), Some("12345"), None)?;
-    assert!(rt; reads_five(rt.alloc(), host, 5));
-    Ok(())
-}
-
-#[test]
-fn files_that_are_too_long(rt: HostRuntime) -> Result<(), Fail> {
-    let host = folder(rt.alloc(), Some("12345"), None)?;
-    assert!(rt; !reads_five(rt.alloc(), host, 4));
-    Ok(())
 }

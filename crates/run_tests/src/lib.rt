@@ -6,8 +6,6 @@ mod faults;
 #[cfg(test)]
 mod folders;
 #[cfg(test)]
-mod gripper;
-#[cfg(test)]
 mod limits;
 #[cfg(test)]
 mod plans;

@@ -1,6 +1,7 @@
 // Runs with a bound, and by configurations with limits.
 use crate::folders::plans;
 use crate::runs::{End, Told, finished, tell_of};
+use crate::texts::risen_cost;
 use lama_num::NoMemory;
 use search_log::LimitHit;
 use std::alloc::Global;
@@ -46,5 +47,16 @@ fn limits_of_pops(rt: HostRuntime) -> Result<(), Fail> {
 fn limits_of_states(rt: HostRuntime) -> Result<(), Fail> {
     let two = searched(rt.alloc(), "lazy_greedy([ff()],max_states=2)")?;
     assert!(rt; two == finished(23, End::Limit(LimitHit::States(2)), 1, [3, 0, 0], 3));
+    Ok(())
+}
+
+/// The real cost of a state rises as it is visited again at fewer steps, so that the fourth pop
+/// goes past the bound.
+#[test]
+fn a_risen_cost_is_known_by_the_bound(rt: HostRuntime) -> Result<(), Fail> {
+    let config = "lazy_greedy([ff()],cost_type=one,estimate=one,reopen_closed=true)";
+    let words = ["--search", config, "--bound", "12", "t.sas"];
+    let told = tell_of(rt.alloc(), &words, risen_cost(), &plans(None, None, None))?;
+    assert!(rt; told == finished(12, End::Unsolved, 1, [4, 0, 0], 4));
     Ok(())
 }

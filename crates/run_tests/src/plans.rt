@@ -1,12 +1,11 @@
 // Runs of plan after plan on small tasks.
 use crate::folders::plans;
-use crate::gripper::gripper;
 use crate::runs::{End, Told, finished, own, solved, tell_of};
 use crate::texts::{jump, sevens, two_steps};
 use lama_num::NoMemory;
 use std::alloc::Global;
 use std::test::Fail;
-use test_tasks::{at_the_goal, door, no_operator, rivals, swap, three_places, two_layers};
+use test_tasks::{at_the_goal, door, gripper, no_operator, rivals, swap, three_places, two_layers};
 
 /// What the run on a task tells that must leave these plans.
 fn on_task<'a>(

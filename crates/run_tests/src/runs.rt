@@ -13,7 +13,7 @@ use std::alloc::{AllocError, Global};
 
 /// A run: its words, the task that the folder holds as `t.sas`, the call of the folder that fails,
 /// and what must stand in the folder afterwards.
-#[derive(Clone, Copy, Debug)]
+#[derive(Clone, Copy)]
 pub struct Case<'a> {
     pub words: &'a [&'a str],
     pub task: Option<&'a str>,
@@ -22,7 +22,7 @@ pub struct Case<'a> {
 }
 
 /// How the one entry of a run ended.
-#[derive(Clone, Copy, Debug, PartialEq, Eq)]
+#[derive(Clone, Copy, PartialEq)]
 pub enum End {
     /// The run has no entry that ended.
     Never,
@@ -38,7 +38,7 @@ pub enum End {
 /// the candidates of the first two; how its entry ended, after how many phases, the pops of the
 /// first three of them, and of all; when the run began, and its entry; and whether the files are as
 /// they must be.
-#[derive(Clone, Copy, Debug, PartialEq, Eq)]
+#[derive(Clone, Copy, PartialEq)]
 pub struct Told {
     pub why: Why,
     pub code: u8,
@@ -180,11 +180,18 @@ fn words_of(alloc: Global, words: &[&str]) -> Result<Vec<String>, AllocError> {
     Ok(all)
 }
 
+fn moments(alloc: Global) -> Result<Vec<u64>, AllocError> {
+    let mut times = Vec::new(alloc);
+    times.push(7)?;
+    times.push(9)?;
+    Ok(times)
+}
+
 fn run_by(alloc: Global, words: &[&str], host: &mut MemHost) -> Result<Told, NoMemory>
     requires { (told_of host.old).busy ≡ [] }
 {
     let words = words_of(alloc, words)?;
-    let times = Vec::from_slice(alloc, &[7, 9])?;
+    let times = moments(alloc)?;
     run_at(alloc, &words, times, host)
 }
 

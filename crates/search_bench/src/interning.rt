@@ -16,13 +16,6 @@ struct States {
     ghost wide: { vec_len words ≡ registry.layout.words },
 }
 
-/// How many states were new, and how many were known.
-#[derive(Clone, Copy, Debug)]
-pub struct Looked {
-    pub new: u64,
-    pub known: u64,
-}
-
 /// Words that no other number gives.
 fn write(words: &mut [u64], number: u64) {
     let mut scattered = number;
@@ -33,60 +26,61 @@ fn write(words: &mut [u64], number: u64) {
 }
 
 impl States {
-    fn new(alloc: Global, task: &Task, most: u32) -> Result<States, NoMemory> {
-        let layout = Layout::new(alloc, task)?;
+    fn of(alloc: Global, layout: Layout, most: u32) -> Result<States, NoMemory> {
         let words = vec![in alloc; 0; layout.words()]?;
-        let registry = Registry::new(alloc, layout, most)?;
-        Ok(States { registry, words })
+        match Registry::new(alloc, layout, most) {
+            Ok(registry) => Ok(States { registry, words }),
+            Err(NoMemory) => Err(NoMemory),
+        }
     }
 
-    fn look_for(&mut self, number: u64) -> Result<Interned, NoMemory> {
+    /// Whether a state is known.
+    fn knows(&mut self, number: u64) -> Result<bool, NoMemory> {
         write(&mut self.words, number);
-        self.registry.intern(&self.words)
+        match self.registry.intern(&self.words) {
+            Ok(Interned::Known(_)) => Ok(true),
+            Ok(_) => Ok(false),
+            Err(NoMemory) => Err(NoMemory),
+        }
     }
 }
 
-fn count(looked: Looked, interned: Interned) -> Looked {
-    match interned {
-        Interned::New(_) => Looked {
-            new: looked.new.wrapping_add(1),
-            known: looked.known,
-        },
-        Interned::Known(_) => Looked {
-            new: looked.new,
-            known: looked.known.wrapping_add(1),
-        },
-        Interned::Full => looked,
-    }
-}
-
-/// Looks once for each of so many states, in a scattered order.
-fn look(states: &mut States, looked: Looked, most: u32) -> Result<Looked, NoMemory> {
-    let mut looked = looked;
+/// Looks once for each of so many states, in a scattered order, and counts those that are known.
+fn look(states: &mut States, most: u32) -> Result<u64, NoMemory> {
+    let mut known = 0u64;
     for place in 0..most {
         let number = u64::from(place).wrapping_mul(2_654_435_761) % u64::from(most);
-        looked = count(looked, states.look_for(number)?);
+        known = known.wrapping_add(u64::from(states.knows(number)?));
     }
-    Ok(looked)
+    Ok(known)
 }
 
-fn three_times(states: &mut States, most: u32) -> Result<Looked, NoMemory> {
-    let mut looked = Looked { new: 0, known: 0 };
+fn three_times(states: &mut States, most: u32) -> Result<u64, NoMemory> {
+    let mut known = 0u64;
     for _ in 0..3 {
-        looked = look(states, looked, most)?;
+        known = known.wrapping_add(look(states, most)?);
     }
-    Ok(looked)
+    Ok(known)
 }
 
-fn look_through(alloc: Global, task: &Task, most: u32) -> Result<Looked, NoMemory> {
-    match States::new(alloc, task, most) {
+fn look_by(alloc: Global, layout: Layout, most: u32) -> Result<u64, NoMemory> {
+    match States::of(alloc, layout, most) {
         Ok(mut states) => three_times(&mut states, most),
         Err(NoMemory) => Err(NoMemory),
     }
 }
 
-/// Looks three times for each of so many states of so many words.
-pub fn look_three_times(alloc: Global, words: u32, most: u32) -> Result<Looked, Failure> {
-    let task = bits(alloc, words)?;
-    Ok(look_through(alloc, &task, most)?)
+fn look_through(alloc: Global, task: &Task, most: u32) -> Result<u64, NoMemory> {
+    match Layout::new(alloc, task) {
+        Ok(layout) => look_by(alloc, layout, most),
+        Err(NoMemory) => Err(NoMemory),
+    }
+}
+
+/// Looks three times for each of so many states of so many words. Tells how often one was known.
+pub fn look_three_times(alloc: Global, words: u32, most: u32) -> Result<u64, Failure> {
+    match bits(alloc, words) {
+        Ok(task) => Ok(look_through(alloc, &task, most)?),
+        Err(error) => Err(error),
+    }
 }

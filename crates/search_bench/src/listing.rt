@@ -1,6 +1,7 @@
 // Entries that go through open lists.
 ghost use Rattle.search_bench.specs.Near.{IsNear};
 
+use bench_tasks::Failure;
 use lama_num::NoMemory;
 use open_lists::OpenLists;
 use std::alloc::Global;
@@ -17,16 +18,18 @@ struct Lists {
 }
 
 /// How many entries were put in, and how many came out.
-#[derive(Clone, Copy, Debug)]
-pub struct Counts {
-    pub inserted: u64,
-    pub popped: u64,
+#[derive(Clone, Copy)]
+struct Counts {
+    inserted: u64,
+    popped: u64,
 }
 
 impl Lists {
     fn new(alloc: Global) -> Result<Lists, NoMemory> {
-        let lists = OpenLists::new(alloc, &[false, true, false, true], 1000)?;
-        Ok(Lists { lists, pops: 0 })
+        match OpenLists::new(alloc, &[false, true, false, true], 1000) {
+            Ok(lists) => Ok(Lists { lists, pops: 0 }),
+            Err(NoMemory) => Err(NoMemory),
+        }
     }
 
     /// Puts four operators of a visit into one of the lists, and says how many they are.
@@ -89,14 +92,18 @@ fn drain(lists: &mut Lists, times: u64) -> u64 {
     popped
 }
 
-/// Puts entries in and takes them out so many rounds, and then takes out what is left.
-pub fn go_through(alloc: Global, keys: u32, rounds: u32) -> Result<Counts, NoMemory> {
-    let mut lists = Lists::new(alloc)?;
-    let counts = fill(&mut lists, keys, rounds)?;
+/// How many entries come out, those that are left at the end with them.
+fn come_out(lists: &mut Lists, keys: u32, rounds: u32) -> Result<u64, NoMemory> {
+    let counts = fill(lists, keys, rounds)?;
     let left = counts.inserted.saturating_sub(counts.popped);
-    let drained = drain(&mut lists, left);
-    Ok(Counts {
-        inserted: counts.inserted,
-        popped: counts.popped.wrapping_add(drained),
-    })
+    Ok(counts.popped.wrapping_add(drain(lists, left)))
+}
+
+/// Puts entries in and takes them out so many rounds, and then takes out what is left. Tells how
+/// many came out.
+pub fn go_through(alloc: Global, keys: u32, rounds: u32) -> Result<u64, Failure> {
+    match Lists::new(alloc) {
+        Ok(mut lists) => Ok(come_out(&mut lists, keys, rounds)?),
+        Err(NoMemory) => Err(Failure::NoMemory),
+    }
 }

@@ -1,10 +1,12 @@
 //! Counts by which the crates below a search are timed: `search_bench KIND SIZE ROUNDS ..`.
 //!
-//! Each three words are a job. `lists` puts four entries a round under SIZE keys into open lists and
-//! takes them out again, `intern` looks three times for each of ROUNDS states of SIZE words, `walk`
-//! takes ROUNDS steps in the delivery task of SIZE packages, and `settle` settles ROUNDS states of a
-//! task with SIZE layers of a hundred rules. It prints counts, which are the same in each run; what
-//! a round takes is the difference of two runs.
+//! Each three words are a job. `lists` puts four entries a round under SIZE keys into open lists
+//! and takes them out again, `intern` looks three times for each of ROUNDS states of SIZE words,
+//! `walk` takes ROUNDS steps in the delivery task of SIZE packages, and `settle` settles ROUNDS
+//! states of a task with SIZE layers of a hundred rules. It prints a count for each, which is the
+//! same in each run: of the entries that came out, the states that were known, the applicable
+//! operators of all steps, and the variables that are 1 at the end. What a round takes is the
+//! difference of two runs.
 #![tactic(auto)]
 
 mod interning;
@@ -12,17 +14,18 @@ mod listing;
 mod settling;
 mod walking;
 
-use bench_tasks::{Failure, layered};
+use bench_tasks::Failure;
 use interning::look_three_times;
 use listing::go_through;
-use settling::settle;
+use settling::settle_layers;
+use std::alloc::Global;
 use std::env;
 use std::io::Print;
 use std::rt::Env;
 use walking::walk_delivery;
 
 /// What a job is about.
-#[derive(Clone, Copy, Debug)]
+#[derive(Clone, Copy)]
 enum Kind {
     Lists,
     Intern,
@@ -30,7 +33,7 @@ enum Kind {
     Settle,
 }
 
-#[derive(Clone, Copy, Debug)]
+#[derive(Clone, Copy)]
 struct Job {
     kind: Kind,
     size: u32,
@@ -60,44 +63,29 @@ fn job_at(words: &[String], place: usize) -> Option<Job> {
     })
 }
 
-fn lists(rt: &(impl Print + AllocGlobal), keys: u32, rounds: u32) -> Result<(), Failure> {
-    let counts = go_through(rt.alloc(), keys, rounds)?;
-    println!(rt;
-        "lists {keys} {rounds}: in {}, out {}",
-        counts.inserted, counts.popped
-    )?;
-    Ok(())
+fn name(kind: Kind) -> &'static str {
+    match kind {
+        Kind::Lists => "lists",
+        Kind::Intern => "intern",
+        Kind::Walk => "walk",
+        Kind::Settle => "settle",
+    }
 }
 
-fn intern(rt: &(impl Print + AllocGlobal), words: u32, states: u32) -> Result<(), Failure> {
-    let counts = look_three_times(rt.alloc(), words, states)?;
-    println!(rt;
-        "intern {words} {states}: new {}, known {}",
-        counts.new, counts.known
-    )?;
-    Ok(())
-}
-
-fn walk_on(rt: &(impl Print + AllocGlobal), packages: u32, steps: u32) -> Result<(), Failure> {
-    let applicable = walk_delivery(rt.alloc(), packages, steps)?;
-    println!(rt; "walk {packages} {steps}: applicable {applicable}")?;
-    Ok(())
-}
-
-fn settle_on(rt: &(impl Print + AllocGlobal), layers: u32, rounds: u32) -> Result<(), Failure> {
-    let task = layered(rt.alloc(), layers)?;
-    let given = settle(rt.alloc(), &task, rounds)?;
-    println!(rt; "settle {layers} {rounds}: given {given}")?;
-    Ok(())
+/// The count of a job.
+fn count(alloc: Global, job: Job) -> Result<u64, Failure> {
+    match job.kind {
+        Kind::Lists => go_through(alloc, job.size, job.rounds),
+        Kind::Intern => look_three_times(alloc, job.size, job.rounds),
+        Kind::Walk => walk_delivery(alloc, job.size, job.rounds),
+        Kind::Settle => settle_layers(alloc, job.size, job.rounds),
+    }
 }
 
 fn run(rt: &(impl Print + AllocGlobal), job: Job) -> Result<(), Failure> {
-    match job.kind {
-        Kind::Lists => lists(rt, job.size, job.rounds),
-        Kind::Intern => intern(rt, job.size, job.rounds),
-        Kind::Walk => walk_on(rt, job.size, job.rounds),
-        Kind::Settle => settle_on(rt, job.size, job.rounds),
-    }
+    let count = count(rt.alloc(), job)?;
+    println!(rt; "{} {} {}: {count}", name(job.kind), job.size, job.rounds)?;
+    Ok(())
 }
 
 /// Runs the job that three words from a place on make.

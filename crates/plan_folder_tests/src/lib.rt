@@ -1,5 +1,0 @@
-//! Tests of plan files in a folder: cleared, kept and sealed.
-#![tactic(auto)]
-
-#[cfg(test)]
-mod files;

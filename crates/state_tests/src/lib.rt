@@ -1,7 +1,0 @@
-//! Tests of states: derived variables, steps and runs of small tasks.
-#![tactic(auto)]
-
-#[cfg(test)]
-mod derived;
-#[cfg(test)]
-mod steps;
