@@ -125,7 +125,7 @@ fn search_by<F: Folder, C: Clock>(
         progress.new trail.new) }
 {
     let mut phases = phases;
-    take_phases(
+    let outcome = take_phases(
         alloc,
         folder,
         clock,
@@ -135,7 +135,9 @@ fn search_by<F: Folder, C: Clock>(
         &mut phases,
         progress,
         trail,
-    )
+    );
+    phases.release();
+    outcome
 }
 
 /// The search of the entry.
