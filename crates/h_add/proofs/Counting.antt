@@ -1,7 +1,7 @@
 -- What is reached, sums of costs, and one unary operator that counts a fact.
 use Rattle.std.proofs.Common.{◌≡◌, ◌≢◌, ◌∙◌, sym, ap, refl, ℕ, ◌+◌, ◌*◌, ◌<◌, ◌≤◌, inl, inr, List, [], ◌∷◌, get_or, min, Bool, true, false, nat_le, not, ◌&&◌, arith, Some, slice_get, length, drop, zero, suc, ◌⊎◌, nat_lt, Option, None, slice_set, get_or-set_other, get_or-set_same, if◌then◌else◌}
 use Rattle.std.specs.List.{list_all}
-use Rattle.std.proofs.lemmas.Bool.{eq-eqb, le-leb, lt-leb, leb-true, ltb-true, ltb-false}
+use Rattle.std.proofs.lemmas.Bool.{eq-eqb, le-leb, lt-leb, leb-true, ltb-true, ltb-false, not-false}
 use Rattle.cost_queue.specs.Occurrences.{one_if, occurrences}
 use Rattle.lama_num.specs.Lists.{both}
 use Rattle.lama_num.specs.declared.estimates.Estimate.{Estimate}
@@ -32,11 +32,7 @@ reached_small t fact is = let parts = both (is_settled t fact) (nat_le (cost_at 
 
 -- what is settled, and not left out, is reached
 pub reached_if : (t : Settlement) (fact : ℕ) → is_settled t fact ≡ true → is_left_out t fact ≡ false → is_reached t fact ≡ true
-reached_if t fact is kept = by_test (nat_le (cost_at t fact) 1000000000) (rw is at kept)
-  where
-    by_test : (b : Bool) → (true && not b) ≡ false → (is_settled t fact && b) ≡ true
-    by_test true kept = rw is refl
-    by_test false kept = let k : true ≡ false = kept in cc
+reached_if t fact is kept = rw is (not-false _ (rw is at kept))
 
 -- what isn't settled is neither reached nor left out
 pub unsettled_not : (t : Settlement) (fact : ℕ) → is_settled t fact ≡ false → (is_reached t fact ≡ false) × (is_left_out t fact ≡ false)

@@ -28,10 +28,7 @@ fact_added old mid new facts k fact place lt at within is so = record {
 }
   where
     by_tests : (b c : Bool) (x y z m n : ℕ) → y ≡ x + (if b then m else 0) → z ≡ y + (if c then one_if b else 0) → n ≡ m + one_if c → z ≡ x + (if b then n else 0)
-    by_tests true true x y z m n before grows longer = omega arith
-    by_tests true false x y z m n before grows longer = omega arith
-    by_tests false true x y z m n before grows longer = omega arith
-    by_tests false false x y z m n before grows longer = omega arith
+    by_tests b c x y z m n before grows longer = grind (arith, before, grows, longer)
 
     grown : (f i : ℕ) → occurrences i (row_at (slice_set mid fact (row_at mid fact ++ place ∷ [])) f) ≡ occurrences i (row_at mid f) + (if nat_eq f fact then one_if (nat_eq i place) else 0)
     grown f i = elim (places f fact) [
@@ -42,13 +39,7 @@ fact_added old mid new facts k fact place lt at within is so = record {
 
 -- one unary operator more
 pushed : (xs : List ℕ) (y k i : ℕ) → length xs ≡ k → get_or xs i 0 + (if nat_eq i k then y else 0) ≡ get_or (xs ++ y ∷ []) i 0
-pushed xs y k i long = elim (cases_order i k) [
-  | inl same ↦ let was = get_or_past xs i 0 (omega arith) in let now = get_or_push xs y 0 i (long ∙ sym same) in rw (eq-eqb i k same) (omega (arith, was, now))
-  | inr apart ↦ rw (ne_eqb i k (λ e. absurd (omega arith))) (elim apart [
-    | inl lt ↦ let kept = get_or_append_left xs (y ∷ []) 0 i (omega arith) in omega (arith, kept)
-    | inr gt ↦ let was = get_or_past xs i 0 (omega arith) in let longer = length_push xs y in let now = get_or_past (xs ++ y ∷ []) i 0 (omega (arith, longer)) in omega (arith, was, now)
-  ])
-]
+pushed xs y k i long = grind (arith, nat_tests, long, get_or_past xs i 0, get_or_push xs y 0 i, get_or_append_left xs (y ∷ []) 0 i, length_push xs y, get_or_past (xs ++ y ∷ []) i 0)
 
 pub needed_more : (unaries : List Unary) (always k : ℕ) (u : Unary) (old new : List (List ℕ)) → k < length unaries → u ≡ get_or unaries k u → Listed old new (needed always u.conds) k → IsNeeds (take k unaries) always old → IsNeeds (take (k + 1) unaries) always new
 needed_more unaries always k u old new lt read grown so fact i =
@@ -109,10 +100,7 @@ free_of_needs unaries always row below needs i u at = needed_at unaries always a
     none_above [] all = refl
     none_above (c ∷ conds) all =
         let parts = both (is_below always c) (list_all (is_below always) conds) all in
-        let other : nat_eq always c ≡ false = grind (arith, nat_tests, parts.0) in
-        let here : one_if (nat_eq always c) ≡ 0 = ap one_if other in
-        let rest = none_above conds parts.1 in
-        omega arith
+        grind (arith, nat_tests, parts.0, none_above conds parts.1)
 
     by_conds : (conds : List ℕ) → list_all (is_below always) conds ≡ true → occurrences always (needed always conds) ≡ 1 - length conds
     by_conds [] all = ap (λ (b : Bool). one_if b + 0) (eq-eqb always always refl)

@@ -1,6 +1,7 @@
 -- One fact after the other is settled, or passed over, and what is reached costs what it does by the rounds.
 use Rattle.std.proofs.Common.{◌≡◌, ◌≢◌, ◌∙◌, sym, ap, subst, refl, ℕ, ◌+◌, ◌*◌, ◌<◌, ◌≤◌, ◌⊎◌, inl, inr, List, [], ◌∷◌, ◌++◌, length, get_or, min, Bool, true, false, nat_eq, nat_le, not, ◌&&◌, ◌||◌, if◌then◌else◌, arith, Option, Some, None, slice_get, slice_set, get_or-set_other, get_or-set_same, append_assoc, max, take, zero, suc, nat_lt}
 use Rattle.std.proofs.Math.Bool.{or_assoc, or-false, or-true, and-true}
+use Rattle.std.proofs.lemmas.Bool.Decides.{nat_tests}
 use Rattle.std.proofs.lemmas.Bool.{eq-eqb, and_right, or_parts, lt-ltb, cases_lt, eqb-true, le-leb, or_cases, lt-leb, ltb-true, false_from_ne_true, leb-true, leb-false}
 use Rattle.std.proofs.lemmas.List.{length-set, set_past, map-append, append-nil, set-get_or, take_more, take_all, get_or-map, length-map}
 use Rattle.std.proofs.lemmas.List.Folds.{list_any-append, list_any_more}
@@ -214,10 +215,7 @@ turned x facts more = fun_ext (λ fact.
     list_any-append (nat_eq fact) facts (x ∷ more) ∙ (turn (is_among facts fact) (nat_eq fact x) (is_among more fact) ∙ ap (λ (b : Bool). nat_eq fact x || b) (sym (list_any-append (nat_eq fact) facts more))))
   where
     turn : (a b c : Bool) → (a || (b || c)) ≡ (b || (a || c))
-    turn true true c = refl
-    turn true false c = refl
-    turn false true c = refl
-    turn false false c = refl
+    turn a b c = grind arith
 
 order_grows : (facts : List ℕ) (list : List Unary) (u : Unary) → IsInOrder facts list → list_all (is_among (facts ++ given_by list)) u.conds ≡ true → is_among (facts ++ given_by list) u.gives ≡ false → IsInOrder facts (list ++ u ∷ [])
 order_grows facts [] u order conds new = (rw append-nil at conds, rw append-nil at new, tt)
@@ -238,9 +236,7 @@ pub from_reached : (unaries : List Unary) (without had : List ℕ) (t : Settleme
 from_reached unaries without had t fact from = by_flags (is_settled t fact) (nat_le (cost_at t fact) 1000000000) (is_among without fact) (is_among (gained unaries had t.order) fact) (from.out fact) (from.settled fact)
   where
     by_flags : (a b w g : Bool) → (a && not b) ≡ w → a ≡ (w || g) → (a && b) ≡ (g && not w)
-    by_flags true true w g out is = rw (← out, ← (rw (← out) at is)) refl
-    by_flags true false w g out is = rw (← out) (sym (and_right g false refl))
-    by_flags false b w g out is = rw (← (rw (← out) at is)) refl
+    by_flags a b w g out is = grind (arith, out, is)
 
 first_settled : (unaries : List Unary) (without had : List ℕ) (t : Settlement) (fact : ℕ) → is_among had fact ≡ true → IsFrom unaries without had t → is_settled t fact ≡ true
 first_settled unaries without had t fact among from = from.settled fact ∙ rw (list_any-append (nat_eq fact) had (given_by (chosen unaries t.order)), among) (or-true (is_among without fact))
@@ -259,11 +255,7 @@ taken_within unaries t mid entry taken long s = let lt = there t.waiting entry.n
 
 -- a fact that is there is needed by those that have it as a condition
 pub needed_same : (always fact : ℕ) (conds : List ℕ) → fact < always → occurrences fact (needed always conds) ≡ occurrences fact conds
-needed_same always fact [] lt = by_place (places fact always)
-  where
-    by_place : ((fact ≡ always) × (nat_eq fact always ≡ true)) ⊎ ((fact ≢ always) × (nat_eq fact always ≡ false)) → one_if (nat_eq fact always) + 0 ≡ 0
-    by_place (inl here) = let same = here.0 in absurd (omega arith)
-    by_place (inr other) = ap (λ (b : Bool). one_if b + 0) other.1 ∙ omega arith
+needed_same always fact [] lt = grind (arith, nat_tests, lt)
 needed_same always fact (c ∷ conds) lt = refl
 
 settled_mid : (t mid : Settlement) (fact : ℕ) (b : Bool) → mid ≡ record t { waiting = mid.waiting } → is_settled mid fact ≡ b → is_settled t fact ≡ b
@@ -395,11 +387,7 @@ none_later unaries t mid mid_is same s = rw (mid_is, same) (now_later unaries t 
 
 -- nothing is reached
 none_reached : (unaries : List Unary) (t : Settlement) → IsFresh unaries t → (fact : ℕ) → is_reached t fact ≡ false
-none_reached unaries t f fact = let large = lt-leb (cost_at t fact) 1000000000 (f.costs fact) in rw large (never (is_settled t fact))
-  where
-    never : (b : Bool) → (b && false) ≡ false
-    never true = refl
-    never false = refl
+none_reached unaries t f fact = let large = lt-leb (cost_at t fact) 1000000000 (f.costs fact) in rw large (and_right (is_settled t fact) false refl)
 
 none_summed : (f : ℕ → ℕ) (n : ℕ) (conds : List ℕ) → ((fact : ℕ) → f fact ≡ n) → summed f conds ≡ length conds * n
 none_summed f n [] same = omega arith
@@ -450,11 +438,7 @@ marked_more unaries facts more s t now a b = record {
 }
   where
     turn : (a b c n : Bool) → ((a || (b && n)) || (c && n)) ≡ (a || ((b || c) && n))
-    turn true b c n = refl
-    turn false true true true = refl
-    turn false true true false = refl
-    turn false true false n = or-false n
-    turn false false c n = refl
+    turn a b c n = grind arith
 
 pub counted_marked : (unaries : List Unary) (t now : Settlement) → IsUnderWay unaries 0 [] now → HasCounted t now → HasMarked unaries [] t now
 counted_marked unaries t now way counted = record {
@@ -496,17 +480,13 @@ pub old_marked : (unaries : List Unary) (t : Settlement) (fact : ℕ) → (fact 
 old_marked unaries t fact old way = record {
   way = way;
   settled = λ f. elim (places f fact) [
-    | inl here ↦ rw (here.1, here.0) (by_test (is_below (length t.costs) fact) refl)
+    | inl here ↦ rw (here.1, here.0) (grind (arith, nat_tests, old))
     | inr apart ↦ rw apart.1 (sym (or-false (is_settled t f)))
   ];
   out = λ f. refl;
   order = refl;
   long = refl;
 }
-  where
-    by_test : (b : Bool) → is_below (length t.costs) fact ≡ b → is_settled t fact ≡ (is_settled t fact || b)
-    by_test true is = rw (old (ltb-true fact (length t.costs) is)) refl
-    by_test false is = sym (or-false (is_settled t fact))
 
 -- What is there after some facts were marked, where nothing was reached.
 pub begun : (unaries : List Unary) (without had : List ℕ) (t now : Settlement) → IsFresh unaries t → ((fact : ℕ) → is_settled t fact ≡ is_among without fact) → list_all (is_below (length t.costs)) had ≡ true → HasMarked unaries had t now → IsFrom unaries without had now
@@ -630,11 +610,7 @@ all_best unaries level t (i ∷ order) each way =
     among i = rw (eq-eqb i i refl) refl
 
     later : (place : ℕ) → is_among order place ≡ true → is_among (i ∷ order) place ≡ true
-    later place is = by_test (nat_eq place i)
-      where
-        by_test : (b : Bool) → (b || is_among order place) ≡ true
-        by_test true = refl
-        by_test false = is
+    later place is = rw is (or-true (nat_eq place i))
 
 -- what is given in order by best supporters is attained by rounds
 attained_in : (unaries : List Unary) (start without : List ℕ) (v : ℕ → Estimate) (have : List ℕ) (list : List Unary) → ((fact : ℕ) → is_among without fact ≡ true → v fact ≡ Infinite) → IsInOrder have list → AreBest unaries v list →
