@@ -57,10 +57,7 @@ needed_at unaries always fact row needs i u at =
 -- a row has places of unary operators alone
 all_within : (n : ℕ) (row : List ℕ) → ((i : ℕ) → n ≤ i → occurrences i row ≡ 0) → are_places n row ≡ true
 all_within n [] none = refl
-all_within n (c ∷ row) none = elim (cases_lt c n) [
-  | inl lt ↦ rw (lt-ltb c n lt) (all_within n row (λ i le. let all = none i le in omega (arith, all)))
-  | inr le ↦ absurd (let all = none c le in let one : one_if (nat_eq c c) ≡ 1 = ap one_if (eq-eqb c c refl) in omega (arith, all, one))
-]
+all_within n (c ∷ row) none = let rest = all_within n row (λ i le. let all = none i le in omega (arith, all)) in grind (arith, nat_tests, rest, none c)
 
 pub row_within : (unaries : List Unary) (always fact : ℕ) (row : List ℕ) → IsNeededBy unaries always fact row → are_places (length unaries) row ≡ true
 row_within unaries always fact row needs =

@@ -22,17 +22,17 @@ use Rattle.std.specs.List.{list_all}
 use Rattle.std.proofs.Math.Path.{fun_ext}
 use Rattle.std.proofs.lemmas.Option.{slice_get_within, get_or_from_slice_get}
 use Rattle.lama_num.specs.Lists.{both}
-use Rattle.h_add.specs.ByNumber.{IsInOrder, price, is_started, add_round, IsClosed, AreBest, IsBest, start_facts, IsAdd}
+use Rattle.h_add.specs.ByNumber.{price, is_started, add_round, start_facts, IsAdd}
 use Rattle.h_add.specs.Orders.{chosen, given_by, are_places, IsOrder}
 use Rattle.h_add.specs.Laws.{chosen_grows}
 use Rattle.h_add.specs.Networks.{needed, IsNeededBy, AreFree, open_at_start}
 use Rattle.h_add.proofs.Growing.{needed_at, written_back}
 use Rattle.lama_num.specs.declared.estimates.Estimate.{Estimate}
 use Rattle.lama_num.specs.declared.estimates.Estimate.TheVariants.{Finite, Infinite}
-use Rattle.relaxed_task.specs.CostLaws.{price_at_most, price_attained, sum_capped}
+use Rattle.relaxed_task.specs.CostLaws.{IsClosed, price_at_most, price_attained, sum_capped}
 use Rattle.relaxed_task.specs.EstimateLaws.{at_most_self, at_most_trans, at_most_infinite, both_at_least, IsCapped, at_most_both, least_left, least_right, plus_left, plus_right}
 use Rattle.relaxed_task.specs.Estimates.{least, IsAtMost, is_finite, IsLeast}
-use Rattle.relaxed_task.specs.Relaxing.{least_price, sum_of as total}
+use Rattle.relaxed_task.specs.Relaxing.{AreBest, IsBest, IsInOrder, least_price, sum_of as total}
 use Rattle.lama_num.specs.Estimates.{estimate_sum}
 use Rattle.h_add.specs.Values.{estimate_of, value_at, IsEvaluatedByNumber}
 use Rattle.sas_task.specs.declared.contents.CostKind.{CostKind}
@@ -46,10 +46,7 @@ after t fact cost waiting order = record { costs = slice_set t.costs fact cost; 
 
 -- a flag more
 pub flagged : (flags : List Bool) (fact f : ℕ) → fact < length flags → get_or (slice_set flags fact true) f false ≡ (get_or flags f false || nat_eq f fact)
-flagged flags fact f lt = elim (places f fact) [
-  | inl here ↦ rw (here.1, here.0) (get_or-set_same flags fact true false lt ∙ sym (or-true (get_or flags fact false)))
-  | inr there ↦ rw there.1 (get_or-set_other flags fact f true false there.0 ∙ sym (or-false (get_or flags f false)))
-]
+flagged flags fact f lt = grind (arith, nat_tests, get_or-set_same flags fact true false lt, get_or-set_other flags fact f true false)
 
 -- A fact that isn't settled, is settled at a cost.
 module _ (t : Settlement) (fact cost : ℕ) (waiting : List (Option ℕ)) (order : List ℕ) (within : fact < length t.costs) (in_flags : fact < length t.settled) (new : is_settled t fact ≡ false) (small : cost ≤ 1000000000) where
@@ -78,10 +75,7 @@ module _ (t : Settlement) (fact cost : ℕ) (waiting : List (Option ℕ)) (order
   reached_there f ne = rw (settled_there f ne, cost_there f ne) refl
 
   pub kept : (f : ℕ) → is_left_out next f ≡ is_left_out t f
-  kept f = elim (places f fact) [
-    | inl here ↦ rw here.0 (rw (settled_is, little, new) refl)
-    | inr there ↦ rw (settled_there f there.0, cost_there f there.0) refl
-  ]
+  kept f = grind (arith, nat_tests, settled_is, little, new, settled_there f, cost_there f)
 
   -- It costs no less than what is settled and no more than what waits: those that need it have to count it.
   pub settle_way : (unaries : List Unary) (level : ℕ) (row : List ℕ) → cost ≤ cost_at t fact → level ≤ cost →
@@ -115,10 +109,7 @@ module _ (t : Settlement) (fact cost : ℕ) (waiting : List (Option ℕ)) (order
           let was = way.wanted f (sym (settled_there f there.0) ∙ fresh) (omega arith) in
           record { place = was.place; unary = was.unary; at = was.at; gives = was.gives; waits = still was.place was.unary was.at (λ e. there.0 (sym was.gives ∙ e)) (cost_at t f) was.waits ∙ ap (λ (n : ℕ). Some n) (sym same) }
     ];
-    low = λ f is. elim (places f fact) [
-      | inl here ↦ rw here.0 (let same = cost_is in omega arith)
-      | inr there ↦ let same = cost_there f there.0 in let le = way.low f (sym (reached_there f there.0) ∙ is) in omega arith
-    ];
+    low = λ f is. grind (arith, nat_tests, cost_is, cost_there f, reached_there f, way.low f, above, is);
     settled_by = λ place among. elim (ordered place among) [
       | inl before ↦
           let was = way.settled_by place before in
@@ -129,10 +120,7 @@ module _ (t : Settlement) (fact cost : ℕ) (waiting : List (Option ℕ)) (order
   }
     where
       less : (f : ℕ) → cost_at next f ≤ cost_at t f
-      less f = elim (places f fact) [
-        | inl here ↦ rw here.0 (let same = cost_is in omega arith)
-        | inr there ↦ let same = cost_there f there.0 in omega arith
-      ]
+      less f = grind (arith, nat_tests, cost_is, cost_there f, cheap)
 
 -- what a unary operator that is taken asks for is what its fact costs
 pub record Pays (level : ℕ) (t : Settlement) (entry : Entry) (fact : ℕ) : Type 0 where
@@ -217,7 +205,7 @@ turned x facts more = fun_ext (λ fact.
     turn : (a b c : Bool) → (a || (b || c)) ≡ (b || (a || c))
     turn a b c = grind arith
 
-order_grows : (facts : List ℕ) (list : List Unary) (u : Unary) → IsInOrder facts list → list_all (is_among (facts ++ given_by list)) u.conds ≡ true → is_among (facts ++ given_by list) u.gives ≡ false → IsInOrder facts (list ++ u ∷ [])
+order_grows : (facts : List ℕ) (list : List Unary) (u : Unary) → IsInOrder over_numbers facts list → list_all (is_among (facts ++ given_by list)) u.conds ≡ true → is_among (facts ++ given_by list) u.gives ≡ false → IsInOrder over_numbers facts (list ++ u ∷ [])
 order_grows facts [] u order conds new = (rw append-nil at conds, rw append-nil at new, tt)
 order_grows facts (x ∷ list) u order conds new = (
   order.0,
@@ -515,20 +503,18 @@ pub out_more : (numbers : List ℕ) (old new : List Bool) (k number : ℕ) → k
     (fact : ℕ) → get_or new fact false ≡ is_among (take (k + 1) numbers) fact
 out_more numbers old new k number lt at within is so fact = rw (is, list_any_more (nat_eq fact) numbers k 0 lt, ← at, ← so fact) (flagged old number fact within)
 
-below_least : (v w : ℕ → Estimate) (fact : ℕ) (without : List ℕ) (unaries : List Unary) → ((f : ℕ) → IsAtMost (v f) (w f)) → is_among without fact ≡ false → IsClosed unaries without v → IsAtMost (v fact) (least_price over_numbers w fact unaries)
+below_least : (v w : ℕ → Estimate) (fact : ℕ) (without : List ℕ) (unaries : List Unary) → ((f : ℕ) → IsAtMost (v f) (w f)) → is_among without fact ≡ false → IsClosed over_numbers unaries without v → IsAtMost (v fact) (least_price over_numbers w fact unaries)
 below_least v w fact without [] le stays closed = at_most_infinite (v fact)
-below_least v w fact without (u ∷ unaries) le stays closed = by_test (nat_eq u.gives fact) refl (below_least v w fact without unaries le stays (λ i. closed (suc i)))
-  where
-    by_test : (b : Bool) → nat_eq u.gives fact ≡ b → IsAtMost (v fact) (least_price over_numbers w fact unaries) →
-        IsAtMost (v fact) (if b then least (price w u) (least_price over_numbers w fact unaries) else least_price over_numbers w fact unaries)
-    by_test true is rest =
-        let same = eqb-true u.gives fact is in
-        let own = at_most_trans (v u.gives) (price v u) (price w u) (closed 0 u refl (ap (is_among without) same ∙ stays)) (price_at_most over_numbers v w u le) in
-        both_at_least (v fact) (price w u) (least_price over_numbers w fact unaries) (subst (λ (f : ℕ). IsAtMost (v f) (price w u)) same own) rest
-    by_test false is rest = rest
+below_least v w fact without (u ∷ unaries) le stays closed =
+    let rest = below_least v w fact without unaries le stays (λ i. closed (suc i)) in
+    elim (places u.gives fact) [
+      | inl here ↦ rw here.1 (both_at_least (v fact) (price w u) (least_price over_numbers w fact unaries)
+          (rw (← here.0) (at_most_trans (v u.gives) (price v u) (price w u) (closed 0 u refl (rw here.0 stays)) (price_at_most over_numbers v w u le))) rest)
+      | inr other ↦ rw other.1 rest
+    ]
 
 -- costs that no unary operator lowers are below all rounds
-pub closed_is_below : (unaries : List Unary) (start without : List ℕ) (v : ℕ → Estimate) → ((fact : ℕ) → is_started start without fact ≡ true → v fact ≡ Finite 0) → IsClosed unaries without v →
+pub closed_is_below : (unaries : List Unary) (start without : List ℕ) (v : ℕ → Estimate) → ((fact : ℕ) → is_started start without fact ≡ true → v fact ≡ Finite 0) → IsClosed over_numbers unaries without v →
     (n fact : ℕ) → IsAtMost (v fact) (add_round unaries start without n fact)
 closed_is_below unaries start without v first closed zero fact = by_test (is_started start without fact) refl
   where
@@ -576,7 +562,7 @@ sum_same v w p [] same all = refl
 sum_same v w p (f ∷ facts) same all = let parts = both (p f) (list_all p facts) all in rw (same f parts.0, sum_same v w p facts same parts.1) refl
 
 -- no unary operator lowers what facts cost up to a bound
-closed : (unaries : List Unary) (without : List ℕ) (level : ℕ) (t : Settlement) (top : Estimate) → ((fact : ℕ) → is_left_out t fact ≡ is_among without fact) → Bounds t top → IsUnderWay unaries level [] t → IsClosed unaries without (upto t top)
+closed : (unaries : List Unary) (without : List ℕ) (level : ℕ) (t : Settlement) (top : Estimate) → ((fact : ℕ) → is_left_out t fact ≡ is_among without fact) → Bounds t top → IsUnderWay unaries level [] t → IsClosed over_numbers unaries without (upto t top)
 closed unaries without level t top out p way i u at stays = elim (cases_lt 0 (open_at t i).count) [
   | inl some ↦
       let count = was.count in
@@ -595,7 +581,7 @@ closed unaries without level t top out p way i u at stays = elim (cases_lt 0 (op
     was = way.each i u at
 
 -- those that settled a fact are best
-all_best : (unaries : List Unary) (level : ℕ) (t : Settlement) (order : List ℕ) → ((place : ℕ) → is_among order place ≡ true → HasSettled unaries t place) → IsUnderWay unaries level [] t → (are_places (length unaries) order ≡ true) × AreBest unaries (value_at t.costs) (chosen unaries order)
+all_best : (unaries : List Unary) (level : ℕ) (t : Settlement) (order : List ℕ) → ((place : ℕ) → is_among order place ≡ true → HasSettled unaries t place) → IsUnderWay unaries level [] t → (are_places (length unaries) order ≡ true) × AreBest over_numbers unaries (value_at t.costs) (chosen unaries order)
 all_best unaries level t [] each way = (refl, tt)
 all_best unaries level t (i ∷ order) each way =
     let here = each i (among i) in
@@ -603,7 +589,7 @@ all_best unaries level t (i ∷ order) each way =
     let lt : nat_lt i (length unaries) ≡ true = lt-ltb i (length unaries) (slice_get_within unaries i here.unary here.at) in
     let asks = price_sum unaries level i t (value_at t.costs) here.unary here.at (reached_value t) here.none_open way in
     let value = reached_value t here.unary.gives here.reached in
-    let best : IsBest unaries (value_at t.costs) here.unary = record { place = i; at = here.at; finite = ap is_finite value; pays = asks ∙ (ap (λ (n : ℕ). Finite n) (sym here.pays) ∙ sym value) } in
+    let best : IsBest over_numbers unaries (value_at t.costs) here.unary = record { place = i; at = here.at; finite = ap is_finite value; pays = asks ∙ (ap (λ (n : ℕ). Finite n) (sym here.pays) ∙ sym value) } in
     (rw lt rest.0, rw here.at (best, rest.1))
   where
     among : (i : ℕ) → is_among (i ∷ order) i ≡ true
@@ -613,7 +599,7 @@ all_best unaries level t (i ∷ order) each way =
     later place is = rw is (or-true (nat_eq place i))
 
 -- what is given in order by best supporters is attained by rounds
-attained_in : (unaries : List Unary) (start without : List ℕ) (v : ℕ → Estimate) (have : List ℕ) (list : List Unary) → ((fact : ℕ) → is_among without fact ≡ true → v fact ≡ Infinite) → IsInOrder have list → AreBest unaries v list →
+attained_in : (unaries : List Unary) (start without : List ℕ) (v : ℕ → Estimate) (have : List ℕ) (list : List Unary) → ((fact : ℕ) → is_among without fact ≡ true → v fact ≡ Infinite) → IsInOrder over_numbers have list → AreBest over_numbers unaries v list →
     ((fact : ℕ) → is_among have fact ≡ true → (n : ℕ) × IsAtMost (add_round unaries start without n fact) (v fact)) → (fact : ℕ) → is_among (have ++ given_by list) fact ≡ true → (n : ℕ) × IsAtMost (add_round unaries start without n fact) (v fact)
 attained_in unaries start without v have [] outside order best so fact among = so fact (rw append-nil at among)
 attained_in unaries start without v have (u ∷ list) outside order best so fact among =
