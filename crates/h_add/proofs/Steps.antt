@@ -2,7 +2,7 @@
 use Rattle.std.proofs.Common.{◌≡◌, ◌≢◌, ◌∙◌, sym, ap, subst, refl, ℕ, ◌+◌, ◌*◌, ◌<◌, ◌≤◌, ◌⊎◌, inl, inr, List, [], ◌∷◌, ◌++◌, length, get_or, min, Bool, true, false, nat_eq, nat_le, not, ◌&&◌, ◌||◌, if◌then◌else◌, arith, Option, Some, None, slice_get, slice_set, get_or-set_other, get_or-set_same, append_assoc, max, take, zero, suc, nat_lt}
 use Rattle.std.proofs.Math.Bool.{or_assoc, or-false, or-true, and-true}
 use Rattle.std.proofs.lemmas.Bool.Decides.{nat_tests}
-use Rattle.std.proofs.lemmas.Bool.{eq-eqb, and_right, or_parts, lt-ltb, cases_lt, eqb-true, le-leb, or_cases, lt-leb, ltb-true, false_from_ne_true, leb-true, leb-false}
+use Rattle.std.proofs.lemmas.Bool.{cases_Bool, eq-eqb, and_right, or_parts, lt-ltb, cases_lt, eqb-true, le-leb, or_cases, lt-leb, ltb-true, false_from_ne_true, leb-true, leb-false}
 use Rattle.std.proofs.lemmas.List.{length-set, set_past, map-append, append-nil, set-get_or, take_more, take_all, get_or-map, length-map}
 use Rattle.std.proofs.lemmas.List.Folds.{list_any-append, list_any_more}
 use Rattle.std.proofs.lemmas.List.Sums.{sum_by-set, count_by-le-length}
@@ -184,9 +184,7 @@ one_left flag = if not flag then 1 else 0
 
 pub fewer_unsettled : (flags : List Bool) (fact : ℕ) → fact < length flags → get_or flags fact false ≡ false → unsettled (slice_set flags fact true) + 1 ≡ unsettled flags
 fewer_unsettled flags fact lt new =
-    let more = sum_by-set one_left flags fact true false lt in
-    let was : one_left (get_or flags fact false) ≡ 1 = ap one_left new in
-    omega (arith, more, was)
+    grind (arith, sum_by-set one_left flags fact true false lt, new)
 
 pub fewer_or_same : (flags : List Bool) (fact : ℕ) → unsettled (slice_set flags fact true) ≤ unsettled flags
 fewer_or_same flags fact = elim (cases_lt fact (length flags)) [
@@ -199,11 +197,7 @@ few_unsettled flags = count_by-le-length not flags
 
 -- one more in an order
 pub turned : (x : ℕ) (facts more : List ℕ) → is_among (facts ++ x ∷ more) ≡ is_among (x ∷ (facts ++ more))
-turned x facts more = fun_ext (λ fact.
-    list_any-append (nat_eq fact) facts (x ∷ more) ∙ (turn (is_among facts fact) (nat_eq fact x) (is_among more fact) ∙ ap (λ (b : Bool). nat_eq fact x || b) (sym (list_any-append (nat_eq fact) facts more))))
-  where
-    turn : (a b c : Bool) → (a || (b || c)) ≡ (b || (a || c))
-    turn a b c = grind arith
+turned x facts more = fun_ext (λ fact. grind (arith, list_any-append (nat_eq fact) facts (x ∷ more), list_any-append (nat_eq fact) facts more))
 
 order_grows : (facts : List ℕ) (list : List Unary) (u : Unary) → IsInOrder over_numbers facts list → list_all (is_among (facts ++ given_by list)) u.conds ≡ true → is_among (facts ++ given_by list) u.gives ≡ false → IsInOrder over_numbers facts (list ++ u ∷ [])
 order_grows facts [] u order conds new = (rw append-nil at conds, rw append-nil at new, tt)
@@ -221,10 +215,7 @@ gained unaries had order = had ++ given_by (chosen unaries order)
 
 -- what is left out is settled, but not reached
 pub from_reached : (unaries : List Unary) (without had : List ℕ) (t : Settlement) (fact : ℕ) → IsFrom unaries without had t → is_reached t fact ≡ (is_among (gained unaries had t.order) fact && not (is_among without fact))
-from_reached unaries without had t fact from = by_flags (is_settled t fact) (nat_le (cost_at t fact) 1000000000) (is_among without fact) (is_among (gained unaries had t.order) fact) (from.out fact) (from.settled fact)
-  where
-    by_flags : (a b w g : Bool) → (a && not b) ≡ w → a ≡ (w || g) → (a && b) ≡ (g && not w)
-    by_flags a b w g out is = grind (arith, out, is)
+from_reached unaries without had t fact from = grind (arith, from.out fact, from.settled fact)
 
 first_settled : (unaries : List Unary) (without had : List ℕ) (t : Settlement) (fact : ℕ) → is_among had fact ≡ true → IsFrom unaries without had t → is_settled t fact ≡ true
 first_settled unaries without had t fact among from = from.settled fact ∙ rw (list_any-append (nat_eq fact) had (given_by (chosen unaries t.order)), among) (or-true (is_among without fact))
@@ -419,14 +410,11 @@ there_way unaries facts t now fact row facts_is settled_long within new is needs
 pub marked_more : (unaries : List Unary) (facts more : List ℕ) (s t now : Settlement) → HasMarked unaries facts s t → HasMarked unaries more t now → HasMarked unaries (facts ++ more) s now
 marked_more unaries facts more s t now a b = record {
   way = b.way;
-  settled = λ f. b.settled f ∙ rw (a.settled f, a.long, list_any-append (nat_eq f) facts more) (turn (is_settled s f) (is_among facts f) (is_among more f) (is_below (length s.costs) f));
+  settled = λ f. b.settled f ∙ rw (a.settled f, a.long, list_any-append (nat_eq f) facts more) (grind arith);
   out = λ f. b.out f ∙ a.out f;
   order = b.order ∙ a.order;
   long = b.long ∙ a.long;
 }
-  where
-    turn : (a b c n : Bool) → ((a || (b && n)) || (c && n)) ≡ (a || ((b || c) && n))
-    turn a b c n = grind arith
 
 pub counted_marked : (unaries : List Unary) (t now : Settlement) → IsUnderWay unaries 0 [] now → HasCounted t now → HasMarked unaries [] t now
 counted_marked unaries t now way counted = record {
@@ -451,10 +439,7 @@ all_marked unaries facts k s t le a = rw take_all at a
 pub there_marked : (unaries : List Unary) (t mid now : Settlement) (fact : ℕ) → length t.settled ≡ length t.costs → fact < length t.costs → is_settled t fact ≡ false → mid ≡ there_at t fact → IsUnderWay unaries 0 [] now → HasCounted mid now → HasMarked unaries (fact ∷ []) t now
 there_marked unaries t mid now fact long within new mid_is way counted = record {
   way = way;
-  settled = λ f. later.settled f ∙ (or-false (is_settled (there_at t fact) f) ∙ (flagged t.settled fact f (omega arith) ∙ elim (places f fact) [
-    | inl here ↦ rw (here.1, here.0, lt-ltb fact (length t.costs) within) refl
-    | inr apart ↦ rw apart.1 refl
-  ]));
+  settled = λ f. grind (arith, nat_tests, later.settled f, flagged t.settled fact f (omega arith), within);
   out = λ f. later.out f ∙ kept t fact 0 t.waiting t.order within (omega arith) new (omega arith) f;
   order = later.order;
   long = later.long ∙ length-set t.costs fact 0;
@@ -491,12 +476,11 @@ begun unaries without had t now fresh flags below marked = record {
     out : (f : ℕ) → is_left_out now f ≡ is_among without f
     out f = marked.out f ∙ (let large = lt-leb (cost_at t f) 1000000000 (fresh.costs f) in rw large (and-true (is_settled t f) ∙ flags f))
 
-    by_among : (f : ℕ) (b : Bool) → is_among had f ≡ b → (b && is_below (length t.costs) f) ≡ b
-    by_among f true among = all_has over_numbers (is_below (length t.costs)) had f below among
-    by_among f false among = refl
+    by_among : (f : ℕ) → (is_among had f && is_below (length t.costs) f) ≡ is_among had f
+    by_among f = grind (arith, all_has over_numbers (is_below (length t.costs)) had f below)
 
     settled : (f : ℕ) → is_settled now f ≡ (is_among without f || is_among (gained unaries had now.order) f)
-    settled f = rw (none, append-nil had) (marked.settled f ∙ rw (flags f, by_among f (is_among had f) refl) refl)
+    settled f = rw (none, append-nil had) (marked.settled f ∙ rw (flags f, by_among f) refl)
 
 -- one fact more is left out
 pub out_more : (numbers : List ℕ) (old new : List Bool) (k number : ℕ) → k < length numbers → number ≡ get_or numbers k 0 → number < length old → new ≡ slice_set old number true → ((fact : ℕ) → get_or old fact false ≡ is_among (take k numbers) fact) →
@@ -516,19 +500,17 @@ below_least v w fact without (u ∷ unaries) le stays closed =
 -- costs that no unary operator lowers are below all rounds
 pub closed_is_below : (unaries : List Unary) (start without : List ℕ) (v : ℕ → Estimate) → ((fact : ℕ) → is_started start without fact ≡ true → v fact ≡ Finite 0) → IsClosed over_numbers unaries without v →
     (n fact : ℕ) → IsAtMost (v fact) (add_round unaries start without n fact)
-closed_is_below unaries start without v first closed zero fact = by_test (is_started start without fact) refl
-  where
-    by_test : (b : Bool) → is_started start without fact ≡ b → IsAtMost (v fact) (if b then Finite 0 else Infinite)
-    by_test true is = rw (first fact is) (at_most_self (Finite 0))
-    by_test false is = at_most_infinite (v fact)
-closed_is_below unaries start without v first closed (suc n) fact = by_test (is_among without fact) refl (closed_is_below unaries start without v first closed n)
-  where
-    by_test : (b : Bool) → is_among without fact ≡ b → ((f : ℕ) → IsAtMost (v f) (add_round unaries start without n f)) →
-        IsAtMost (v fact) (if b then Infinite else least (add_round unaries start without n fact) (least_price over_numbers (add_round unaries start without n) fact unaries))
-    by_test true out before = at_most_infinite (v fact)
-    by_test false stays before =
-        both_at_least (v fact) (add_round unaries start without n fact) (least_price over_numbers (add_round unaries start without n) fact unaries) (before fact)
-        (below_least v (add_round unaries start without n) fact without unaries before stays closed)
+closed_is_below unaries start without v first closed zero fact = elim (cases_Bool (is_started start without fact)) [
+  | inl is ↦ rw (is, first fact is) (at_most_self (Finite 0))
+  | inr is ↦ rw is (at_most_infinite (v fact))
+]
+closed_is_below unaries start without v first closed (suc n) fact =
+    let before = closed_is_below unaries start without v first closed n in
+    elim (cases_Bool (is_among without fact)) [
+      | inl out ↦ rw out (at_most_infinite (v fact))
+      | inr stays ↦ rw stays (both_at_least (v fact) (add_round unaries start without n fact) (least_price over_numbers (add_round unaries start without n) fact unaries) (before fact)
+          (below_least v (add_round unaries start without n) fact without unaries before stays closed))
+    ]
 
 -- what facts cost so far, at most so much
 abbrev upto : Settlement → Estimate → ℕ → Estimate
@@ -657,12 +639,10 @@ exact_where unaries start without level t top fact le a p way from = record { ro
 
 -- what isn't reached is infinite, or some unary operator waits for it
 unreached_is : (unaries : List Unary) (level : ℕ) (t : Settlement) (fact : ℕ) → is_reached t fact ≡ false → IsUnderWay unaries level [] t → (value_at t.costs fact ≡ Infinite) ⊎ ((value_at t.costs fact ≡ Finite (cost_at t fact)) × IsWanted unaries t fact)
-unreached_is unaries level t fact not_there way = by_cost (nat_le (cost_at t fact) 1000000000) refl (is_settled t fact) refl
-  where
-    by_cost : (b : Bool) → nat_le (cost_at t fact) 1000000000 ≡ b → (a : Bool) → is_settled t fact ≡ a → (value_at t.costs fact ≡ Infinite) ⊎ ((value_at t.costs fact ≡ Finite (cost_at t fact)) × IsWanted unaries t fact)
-    by_cost false large a is = inl (infinite_is (cost_at t fact) (leb-false (cost_at t fact) 1000000000 large))
-    by_cost true small true is = let k : true ≡ false = sym (rw (is, small) refl) ∙ not_there in absurd cc
-    by_cost true small false is = let le = leb-true (cost_at t fact) 1000000000 small in inr (finite_is (cost_at t fact) le, way.wanted fact is le)
+unreached_is unaries level t fact not_there way = elim (cases_lt 1000000000 (cost_at t fact)) [
+  | inl large ↦ inl (infinite_is (cost_at t fact) large)
+  | inr le ↦ let new : is_settled t fact ≡ false = grind (arith, nat_tests, not_there, le) in inr (finite_is (cost_at t fact) le, way.wanted fact new le)
+]
 
 -- A fact that is reached costs what it does by the rounds, also where others are not settled yet.
 pub reached_exact : (unaries : List Unary) (start without : List ℕ) (t : Settlement) (fact : ℕ) → is_reached t fact ≡ true → IsSettling unaries t → IsFrom unaries without start t → IsLeast (λ n. add_round unaries start without n fact) (value_at t.costs fact)
@@ -687,15 +667,14 @@ idle_infinite unaries t fact idle not_there s = elim (unreached_is unaries s.lev
 
 -- Where none waits, all facts cost what they do by the rounds.
 pub idle_exact : (unaries : List Unary) (start without : List ℕ) (t : Settlement) → IsIdle t.waiting → IsSettling unaries t → IsFrom unaries without start t → (fact : ℕ) → IsLeast (λ n. add_round unaries start without n fact) (value_at t.costs fact)
-idle_exact unaries start without t idle s from fact = exact_where unaries start without s.level t Infinite fact (at_most_infinite (value_at t.costs fact)) (attained (is_reached t fact) refl) (record {
+idle_exact unaries start without t idle s from fact = exact_where unaries start without s.level t Infinite fact (at_most_infinite (value_at t.costs fact)) (elim (cases_Bool (is_reached t fact)) [
+  | inl is ↦ reached_attained unaries start without t fact is s from
+  | inr is ↦ (0, rw (idle_infinite unaries t fact idle is s) (at_most_infinite (add_round unaries start without 0 fact)))
+]) (record {
   capped = tt;
   below = λ f is. at_most_infinite (value_at t.costs f);
   above = λ f not_there. rw (idle_infinite unaries t f idle not_there s) tt;
 }) s.way from
-  where
-    attained : (a : Bool) → is_reached t fact ≡ a → (n : ℕ) × IsAtMost (add_round unaries start without n fact) (value_at t.costs fact)
-    attained true is = reached_attained unaries start without t fact is s from
-    attained false is = (0, rw (idle_infinite unaries t fact idle is s) (at_most_infinite (add_round unaries start without 0 fact)))
 
 pub order_of : (unaries : List Unary) (start : List ℕ) (t : Settlement) → IsIdle t.waiting → IsSettling unaries t → IsFrom unaries [] start t → IsOrder unaries start (value_at t.costs) t.order
 order_of unaries start t idle s from =
@@ -704,12 +683,11 @@ order_of unaries start t idle s from =
       places = best.0;
       best = best.1;
       in_order = from.in_order;
-      given = λ fact finite. given fact finite (is_reached t fact) refl;
+      given = λ fact finite. elim (cases_Bool (is_reached t fact)) [
+        | inl is ↦ (both (is_among (start ++ given_by (chosen unaries t.order)) fact) true (sym (from_reached unaries [] start t fact from) ∙ is)).0
+        | inr is ↦ let k : false ≡ true = sym (ap is_finite (idle_infinite unaries t fact idle is s)) ∙ finite in absurd cc
+      ];
     }
-  where
-    given : (fact : ℕ) → is_finite (value_at t.costs fact) ≡ true → (b : Bool) → is_reached t fact ≡ b → is_among (start ++ given_by (chosen unaries t.order)) fact ≡ true
-    given fact finite true is = (both (is_among (start ++ given_by (chosen unaries t.order)) fact) true (sym (from_reached unaries [] start t fact from) ∙ is)).0
-    given fact finite false is = let k : false ≡ true = sym (ap is_finite (idle_infinite unaries t fact idle is s)) ∙ finite in absurd cc
 
 pub places_of : (unaries : List Unary) (t : Settlement) → IsSettling unaries t → are_places (length unaries) t.order ≡ true
 places_of unaries t s = (all_best unaries s.level t t.order s.way.settled_by s.way).0
@@ -727,4 +705,4 @@ goals_evaluated parts kind relaxed state goals t is settled way from fact among 
 
 pub ruleset marks = (none_marked, taken_marked, all_marked)
 
-pub ruleset cleared = (few_unsettled, written_back)
+pub ruleset cleared = (count_by-le-length, written_back)

@@ -63,7 +63,7 @@ value_of_goals parts kind relaxed state costs value is each sums = record {
 -- a sum is finite where no summand is infinite
 total_finite : (value : ℕ → Estimate) (facts : List ℕ) → is_finite (total value facts) ≡ not (list_any (λ fact. not (is_finite (value fact))) facts)
 total_finite value [] = refl
-total_finite value (fact ∷ facts) = finite_plus (value fact) (total value facts) ∙ (ap (λ (b : Bool). is_finite (value fact) && b) (total_finite value facts) ∙ grind arith)
+total_finite value (fact ∷ facts) = grind (arith, finite_plus (value fact) (total value facts), total_finite value facts)
 
 -- the sum over the goal facts is infinite exactly where the state is dead
 pub dead_by_goals : (parts : Parts) (kind : CostKind) (relaxed : Lists) (state costs : List ℕ) (value : Estimate) → IsRelaxed parts kind relaxed → AreGoalCosts parts kind state costs → value ≡ total (value_at costs) relaxed.goals → (value ≡ Infinite) ↔ IsDead parts state
