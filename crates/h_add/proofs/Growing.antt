@@ -1,7 +1,7 @@
 -- Lists that grow by a place.
-use Rattle.std.proofs.Common.{◌≡◌, ◌∙◌, sym, ap, refl, ℕ, ◌+◌, ◌<◌, ◌≤◌, inl, inr, List, [], ◌∷◌, ◌++◌, length, get_or, take, drop, ◌-◌, map, Bool, true, false, nat_eq, arith, Some, slice_get, slice_set, get_or-set_other, get_or-set_same, if◌then◌else◌}
+use Rattle.std.proofs.Common.{◌≡◌, ◌∙◌, sym, ap, refl, ℕ, ◌+◌, ◌<◌, ◌≤◌, inl, inr, List, [], ◌∷◌, ◌++◌, length, get_or, take, drop, ◌-◌, map, Bool, true, nat_eq, arith, Some, slice_get, slice_set, get_or-set_other, get_or-set_same, if◌then◌else◌}
 use Rattle.std.specs.List.{list_all}
-use Rattle.std.proofs.lemmas.Bool.{cases_lt, cases_order, eq-eqb, lt-ltb, ltb-true, ne_eqb}
+use Rattle.std.proofs.lemmas.Bool.{eq-eqb, ltb-true}
 use Rattle.std.proofs.lemmas.Bool.Decides.{nat_tests}
 use Rattle.std.proofs.lemmas.List.{append-nil, drop_all, get_or-map, get_or_append_left, get_or_default, get_or_past, get_or_push, length-map, length-set, length-take-le, length_push, map_more, take_all, take_more}
 use Rattle.std.proofs.lemmas.Option.{get_or_from_slice_get, slice_get_read, slice_get_within}
@@ -67,9 +67,7 @@ row_within unaries always fact row needs =
 pub gives_below : (n : ℕ) (unaries : List Unary) → list_all (is_unary_below n) unaries ≡ true → are_below n (map (λ u. u.gives) unaries) ≡ true
 gives_below n [] all = refl
 gives_below n (u ∷ unaries) all =
-    let parts = both (is_unary_below n u) (list_all (is_unary_below n) unaries) all in
-    let here = both (list_all (is_below n) u.conds) (is_below n u.gives) parts.0 in
-    rw here.1 (gives_below n unaries parts.1)
+    grind (arith, all, gives_below n unaries)
 
 pub below_at : (n : ℕ) (facts : List ℕ) (i x : ℕ) → are_below n facts ≡ true → i < length facts → x ≡ get_or facts i 0 → x < n
 below_at n facts i x all lt at = ltb-true x n (list_all_get (is_below n) facts i x all (slice_get_read facts (length facts) i x refl lt (at ∙ get_or_default facts i 0 x lt)))

@@ -2,7 +2,7 @@
 use Rattle.std.proofs.Common.{◌≡◌, ◌≢◌, ◌∙◌, sym, ap, subst, refl, ℕ, ◌+◌, ◌*◌, ◌<◌, ◌≤◌, ◌⊎◌, inl, inr, List, [], ◌∷◌, ◌++◌, length, get_or, min, Bool, true, false, nat_eq, nat_le, not, ◌&&◌, ◌||◌, if◌then◌else◌, arith, Option, Some, None, slice_get, slice_set, get_or-set_other, get_or-set_same, append_assoc, max, take, zero, suc, nat_lt}
 use Rattle.std.proofs.Math.Bool.{or_assoc, or-false, or-true, and-true}
 use Rattle.std.proofs.lemmas.Bool.Decides.{nat_tests}
-use Rattle.std.proofs.lemmas.Bool.{cases_Bool, eq-eqb, and_right, or_parts, lt-ltb, cases_lt, eqb-true, le-leb, or_cases, lt-leb, ltb-true, false_from_ne_true, leb-true, leb-false}
+use Rattle.std.proofs.lemmas.Bool.{cases_Bool, eq-eqb, and_right, or_parts, lt-ltb, cases_lt, eqb-true, le-leb, or_cases, lt-leb, false_from_ne_true}
 use Rattle.std.proofs.lemmas.List.{length-set, set_past, map-append, append-nil, set-get_or, take_more, take_all, get_or-map, length-map}
 use Rattle.std.proofs.lemmas.List.Folds.{list_any-append, list_any_more}
 use Rattle.std.proofs.lemmas.List.Sums.{sum_by-set, count_by-le-length}
@@ -16,7 +16,7 @@ use Rattle.relaxed_task.specs.PlanLaws.{all_has}
 use Rattle.relaxed_task.specs.Numbers.{is_among, is_below, over_numbers}
 use Rattle.relaxed_task.specs.declared.unary.Unary.{Unary}
 use Rattle.h_add.specs.declared.network.Open.{Open}
-use Rattle.h_add.specs.UnderWay.{Settlement, cost_at, is_settled, is_reached, is_left_out, open_at, unsettled, given_at, there_at, one_open, share, summed, IsCounted, IsWaiting, IsUnderWay, left_to_do, IsFrom, HasCounted, IsSettling, IsLater, IsFresh, HasMarked, IsWanted, HasSettled, AreSettled}
+use Rattle.h_add.specs.UnderWay.{Settlement, cost_at, is_settled, is_reached, is_left_out, open_at, unsettled, given_at, there_at, one_open, share, summed, IsCounted, IsUnderWay, left_to_do, IsFrom, HasCounted, IsSettling, IsLater, IsFresh, HasMarked, IsWanted, HasSettled, AreSettled}
 use Rattle.h_add.proofs.Counting.{none_counted, reached_if, unsettled_not, sum_changed, reached_same, all_reached, There, unary_there, finite_is, infinite_is, reached_small, price_sum}
 use Rattle.std.specs.List.{list_all}
 use Rattle.std.proofs.Math.Path.{fun_ext}
@@ -99,7 +99,7 @@ module _ (t : Settlement) (fact cost : ℕ) (waiting : List (Option ℕ)) (order
           count = omega (arith, count_was, fewer, as_often);
           sum = omega (arith, sum_was, more, times);
           small = was.small;
-          offered = λ none stays. (let le = was.offered none (sym (kept u.gives) ∙ stays) in let down = less u.gives in omega (arith, le, down));
+          offered = λ none stays. (let le = was.offered none (sym (kept u.gives) ∙ stays) in grind (arith, nat_tests, le, cost_is, cost_there u.gives, cheap));
         });
     waits = λ place price at. (let was = sub place price at in let before = way.waits place price was.0 in record { none_open = before.none_open; price_is = before.price_is; above = was.1 });
     wanted = λ f fresh low. elim (places f fact) [
@@ -118,9 +118,6 @@ module _ (t : Settlement) (fact cost : ℕ) (waiting : List (Option ℕ)) (order
       | inr last ↦ record { unary = last.0; at = last.1; none_open = last.2; reached = rw (← last.3) reached_is; pays = rw (← last.3) (cost_is ∙ last.4) }
     ];
   }
-    where
-      less : (f : ℕ) → cost_at next f ≤ cost_at t f
-      less f = grind (arith, nat_tests, cost_is, cost_there f, cheap)
 
 -- what a unary operator that is taken asks for is what its fact costs
 pub record Pays (level : ℕ) (t : Settlement) (entry : Entry) (fact : ℕ) : Type 0 where
@@ -163,7 +160,7 @@ taken_still unaries old new entry u fact at gives taken place x at_x ne price wa
 pub passed_way : (unaries : List Unary) (level : ℕ) (t : Settlement) (waiting : List (Option ℕ)) (entry : Entry) (u : Unary) (fact : ℕ) → slice_get unaries entry.number ≡ Some u → fact ≡ u.gives → IsTaken t.waiting waiting entry → is_settled t fact ≡ true → IsUnderWay unaries level [] t →
     IsUnderWay unaries entry.price [] (record t { waiting = waiting })
 passed_way unaries level t waiting entry u fact at gives taken old way = record {
-  level_small = let small = (way.each entry.number u at).small in let is = waits.price_is in omega arith;
+  level_small = let small = (way.each entry.number u at).small in let is = (way.waits entry.number entry.price taken.waited).price_is in omega arith;
   opens_long = way.opens_long;
   each = λ place x at_x. (let was = way.each place x at_x in let sum = was.sum in record { count = was.count; sum = omega (arith, sum); small = was.small; offered = was.offered });
   waits = λ place price now. (let was = taken_sub t.waiting waiting entry taken place price now in let before = way.waits place price was.0 in record { none_open = before.none_open; price_is = before.price_is; above = was.1 });
@@ -171,12 +168,9 @@ passed_way unaries level t waiting entry u fact at gives taken old way = record 
       (let was = way.wanted f fresh small in
       let ne : was.unary.gives ≢ fact = λ e. (let k : true ≡ false = sym old ∙ (ap (is_settled t) (sym e ∙ was.gives) ∙ fresh) in absurd cc) in
       record { place = was.place; unary = was.unary; at = was.at; gives = was.gives; waits = taken_still unaries t.waiting waiting entry u fact at gives taken was.place was.unary was.at ne (cost_at t f) was.waits });
-  low = λ f is. (let le = way.low f is in let above = waits.above in omega arith);
+  low = λ f is. (let le = way.low f is in let above = (way.waits entry.number entry.price taken.waited).above in omega arith);
   settled_by = λ place among. (let was = way.settled_by place among in record { unary = was.unary; at = was.at; none_open = was.none_open; reached = was.reached; pays = was.pays });
 }
-  where
-    waits : IsWaiting t level entry.number entry.price
-    waits = way.waits entry.number entry.price taken.waited
 
 -- what is left to do
 abbrev one_left : Bool → ℕ
@@ -263,7 +257,8 @@ step_given unaries facts t mid now row fact entry facts_is settled_long waiting_
     out = λ f. kept t fact entry.price mid.waiting order within in_flags new p.small f ∙ from.out f;
     settled = λ f. flagged t.settled fact f in_flags ∙ (ap (λ (b : Bool). b || nat_eq f fact) (from.settled f) ∙ (or_assoc (is_among without f) (is_among (gained unaries had t.order) f) (nat_eq f fact) ∙ ap (λ (b : Bool). is_among without f || b) (more had f)));
     first = λ f among stays. cost_there t fact entry.price mid.waiting order within in_flags new p.small f (λ e. let k : true ≡ false = sym (first_settled unaries without had t f among from) ∙ (ap (is_settled t) e ∙ new) in cc) ∙ from.first f among stays;
-    in_order = rw grows (order_grows had (chosen unaries t.order) u.unary from.in_order (reached_had without had u.unary.conds from conds)
+    in_order = rw grows (order_grows had (chosen unaries t.order) u.unary from.in_order 
+        (weaker (is_reached t) (is_among (gained unaries had t.order)) u.unary.conds (λ f is. (both (is_among (gained unaries had t.order) f) (not (is_among without f)) (sym (from_reached unaries without had t f from) ∙ is)).0) conds)
         (rw given at (or_parts (is_among without fact) (is_among (gained unaries had t.order) fact) (sym (from.settled fact) ∙ new)).1));
   };
   new = new;
@@ -309,9 +304,6 @@ step_given unaries facts t mid now row fact entry facts_is settled_long waiting_
 
     conds : list_all (is_reached t) u.unary.conds ≡ true
     conds = all_reached t u.unary.conds (let count = (s.way.each entry.number u.unary u.at).count in let none = p.none_open in omega (arith, count, none))
-
-    reached_had : (without had list : List ℕ) → IsFrom unaries without had t → list_all (is_reached t) list ≡ true → list_all (is_among (gained unaries had t.order)) list ≡ true
-    reached_had without had list from all = weaker (is_reached t) (is_among (gained unaries had t.order)) list (λ f is. (both (is_among (gained unaries had t.order) f) (not (is_among without f)) (sym (from_reached unaries without had t f from) ∙ is)).0) all
 
 -- and all that need the fact count it
 pub given_later : (unaries : List Unary) (t now last : Settlement) (fact price : ℕ) (row : List ℕ) → IsGiven unaries t now fact price row → IsUnderWay unaries price [] last → HasCounted now last → IsLater unaries t last
@@ -528,13 +520,12 @@ least_is a b le = at_most_both (least a b) a (least_left a b) (both_at_least a a
 -- where some condition isn't reached the sum is no less
 some_more : (t : Settlement) (top : Estimate) (conds : List ℕ) → Bounds t top → 0 < summed (one_open t) conds → IsAtMost top (total (upto t top) conds)
 some_more t top [] p some = absurd (omega arith)
-some_more t top (c ∷ conds) p some = by_test (is_reached t c) refl some (λ rest. some_more t top conds p rest)
-  where
-    by_test : (b : Bool) → is_reached t c ≡ b → 0 < one_if (not b) + summed (one_open t) conds → (0 < summed (one_open t) conds → IsAtMost top (total (upto t top) conds)) → IsAtMost top (total (upto t top) (c ∷ conds))
-    by_test true is some rest = at_most_trans top (total (upto t top) conds) (total (upto t top) (c ∷ conds)) (rest (omega arith)) (plus_right (upto t top c) (total (upto t top) conds) (sum_capped (upto t top) conds))
-    by_test false is some rest =
-        let here = at_most_both (upto t top c) top (least_right (value_at t.costs c) top) (both_at_least top (value_at t.costs c) top (p.above c is) (at_most_self top)) in
-        rw here (plus_left top (total (upto t top) conds) p.capped)
+some_more t top (c ∷ conds) p some = elim (cases_Bool (is_reached t c)) [
+  | inl is ↦ at_most_trans top (total (upto t top) conds) (total (upto t top) (c ∷ conds)) (some_more t top conds p (let left = rw is at some in omega (arith, left))) (plus_right (upto t top c) (total (upto t top) conds) (sum_capped (upto t top) conds))
+  | inr is ↦
+      let here = at_most_both (upto t top c) top (least_right (value_at t.costs c) top) (both_at_least top (value_at t.costs c) top (p.above c is) (at_most_self top)) in
+      rw here (plus_left top (total (upto t top) conds) p.capped)
+]
 
 reached_value : (t : Settlement) (fact : ℕ) → is_reached t fact ≡ true → value_at t.costs fact ≡ Finite (cost_at t fact)
 reached_value t fact is = finite_is (cost_at t fact) (reached_small t fact is).1
@@ -566,19 +557,13 @@ closed unaries without level t top out p way i u at stays = elim (cases_lt 0 (op
 all_best : (unaries : List Unary) (level : ℕ) (t : Settlement) (order : List ℕ) → ((place : ℕ) → is_among order place ≡ true → HasSettled unaries t place) → IsUnderWay unaries level [] t → (are_places (length unaries) order ≡ true) × AreBest over_numbers unaries (value_at t.costs) (chosen unaries order)
 all_best unaries level t [] each way = (refl, tt)
 all_best unaries level t (i ∷ order) each way =
-    let here = each i (among i) in
-    let rest = all_best unaries level t order (λ place is. each place (later place is)) way in
+    let here = each i (rw (eq-eqb i i refl) refl) in
+    let rest = all_best unaries level t order (λ place is. each place (rw is (or-true (nat_eq place i)))) way in
     let lt : nat_lt i (length unaries) ≡ true = lt-ltb i (length unaries) (slice_get_within unaries i here.unary here.at) in
     let asks = price_sum unaries level i t (value_at t.costs) here.unary here.at (reached_value t) here.none_open way in
     let value = reached_value t here.unary.gives here.reached in
     let best : IsBest over_numbers unaries (value_at t.costs) here.unary = record { place = i; at = here.at; finite = ap is_finite value; pays = asks ∙ (ap (λ (n : ℕ). Finite n) (sym here.pays) ∙ sym value) } in
     (rw lt rest.0, rw here.at (best, rest.1))
-  where
-    among : (i : ℕ) → is_among (i ∷ order) i ≡ true
-    among i = rw (eq-eqb i i refl) refl
-
-    later : (place : ℕ) → is_among order place ≡ true → is_among (i ∷ order) place ≡ true
-    later place is = rw is (or-true (nat_eq place i))
 
 -- what is given in order by best supporters is attained by rounds
 attained_in : (unaries : List Unary) (start without : List ℕ) (v : ℕ → Estimate) (have : List ℕ) (list : List Unary) → ((fact : ℕ) → is_among without fact ≡ true → v fact ≡ Infinite) → IsInOrder over_numbers have list → AreBest over_numbers unaries v list →
@@ -705,4 +690,4 @@ goals_evaluated parts kind relaxed state goals t is settled way from fact among 
 
 pub ruleset marks = (none_marked, taken_marked, all_marked)
 
-pub ruleset cleared = (count_by-le-length, written_back)
+pub ruleset cleared = (few_unsettled, written_back)
