@@ -257,7 +257,7 @@ step_given unaries facts t mid now row fact entry facts_is settled_long waiting_
     out = λ f. kept t fact entry.price mid.waiting order within in_flags new p.small f ∙ from.out f;
     settled = λ f. flagged t.settled fact f in_flags ∙ (ap (λ (b : Bool). b || nat_eq f fact) (from.settled f) ∙ (or_assoc (is_among without f) (is_among (gained unaries had t.order) f) (nat_eq f fact) ∙ ap (λ (b : Bool). is_among without f || b) (more had f)));
     first = λ f among stays. cost_there t fact entry.price mid.waiting order within in_flags new p.small f (λ e. let k : true ≡ false = sym (first_settled unaries without had t f among from) ∙ (ap (is_settled t) e ∙ new) in cc) ∙ from.first f among stays;
-    in_order = rw grows (order_grows had (chosen unaries t.order) u.unary from.in_order 
+    in_order = rw grows (order_grows had (chosen unaries t.order) u.unary from.in_order
         (weaker (is_reached t) (is_among (gained unaries had t.order)) u.unary.conds (λ f is. (both (is_among (gained unaries had t.order) f) (not (is_among without f)) (sym (from_reached unaries without had t f from) ∙ is)).0) conds)
         (rw given at (or_parts (is_among without fact) (is_among (gained unaries had t.order) fact) (sym (from.settled fact) ∙ new)).1));
   };
