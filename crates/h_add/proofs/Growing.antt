@@ -94,9 +94,8 @@ free_of_needs unaries always row below needs i u at = needed_at unaries always a
     none_above : (conds : List ℕ) → list_all (is_below always) conds ≡ true → occurrences always conds ≡ 0
     none_above [] all = refl
     none_above (c ∷ conds) all =
-        let parts = both (is_below always c) (list_all (is_below always) conds) all in
-        grind (arith, nat_tests, parts.0, none_above conds parts.1)
+        grind (arith, nat_tests, all, none_above conds)
 
     by_conds : (conds : List ℕ) → list_all (is_below always) conds ≡ true → occurrences always (needed always conds) ≡ 1 - length conds
-    by_conds [] all = ap (λ (b : Bool). one_if b + 0) (eq-eqb always always refl)
+    by_conds [] all = grind (arith, nat_tests)
     by_conds (c ∷ conds) all = let none = none_above (c ∷ conds) all in omega arith

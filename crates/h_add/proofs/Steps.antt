@@ -181,10 +181,7 @@ fewer_unsettled flags fact lt new =
     grind (arith, sum_by-set one_left flags fact true false lt, new)
 
 pub fewer_or_same : (flags : List Bool) (fact : ℕ) → unsettled (slice_set flags fact true) ≤ unsettled flags
-fewer_or_same flags fact = elim (cases_lt fact (length flags)) [
-  | inl lt ↦ let more = sum_by-set one_left flags fact true false lt in omega (arith, more)
-  | inr past ↦ rw (set_past flags fact true past) (omega arith)
-]
+fewer_or_same flags fact = grind (arith, sum_by-set one_left flags fact true false, set_past flags fact true)
 
 pub few_unsettled : (flags : List Bool) → unsettled flags ≤ length flags
 few_unsettled flags = count_by-le-length not flags
@@ -536,7 +533,7 @@ sum_same v w p (f ∷ facts) same all = let parts = both (p f) (list_all p facts
 
 -- no unary operator lowers what facts cost up to a bound
 closed : (unaries : List Unary) (without : List ℕ) (level : ℕ) (t : Settlement) (top : Estimate) → ((fact : ℕ) → is_left_out t fact ≡ is_among without fact) → Bounds t top → IsUnderWay unaries level [] t → IsClosed over_numbers unaries without (upto t top)
-closed unaries without level t top out p way i u at stays = elim (cases_lt 0 (open_at t i).count) [
+closed unaries without level t top out p way i u at stays = let was = way.each i u at in elim (cases_lt 0 (open_at t i).count) [
   | inl some ↦
       let count = was.count in
       at_most_trans (upto t top u.gives) top (price (upto t top) u) (least_right (value_at t.costs u.gives) top)
@@ -549,9 +546,6 @@ closed unaries without level t top out p way i u at stays = elim (cases_lt 0 (op
       let here : IsAtMost (value_at t.costs u.gives) (Finite (open_at t i).sum) = rw value le in
       rw asks (at_most_trans (upto t top u.gives) (value_at t.costs u.gives) (Finite (open_at t i).sum) (least_left (value_at t.costs u.gives) top) here)
 ]
-  where
-    was : IsCounted t level [] i u
-    was = way.each i u at
 
 -- those that settled a fact are best
 all_best : (unaries : List Unary) (level : ℕ) (t : Settlement) (order : List ℕ) → ((place : ℕ) → is_among order place ≡ true → HasSettled unaries t place) → IsUnderWay unaries level [] t → (are_places (length unaries) order ≡ true) × AreBest over_numbers unaries (value_at t.costs) (chosen unaries order)
