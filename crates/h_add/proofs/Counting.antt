@@ -1,7 +1,8 @@
 -- What is reached, sums of costs, and one unary operator that counts a fact.
 use Rattle.std.proofs.Common.{◌≡◌, ◌≢◌, ◌∙◌, sym, ap, refl, ℕ, ◌+◌, ◌*◌, ◌<◌, ◌≤◌, inl, inr, List, [], ◌∷◌, get_or, min, Bool, true, false, nat_le, not, ◌&&◌, arith, Some, slice_get, length, drop, zero, suc, ◌⊎◌, nat_lt, Option, None, slice_set, get_or-set_other, get_or-set_same, if◌then◌else◌}
 use Rattle.std.specs.List.{list_all}
-use Rattle.std.proofs.lemmas.Bool.{eq-eqb, le-leb, lt-leb, leb-true, ltb-true, ltb-false}
+use Rattle.std.proofs.lemmas.Bool.Decides.{nat_tests}
+use Rattle.std.proofs.lemmas.Bool.{eq-eqb, le-leb, lt-leb, leb-true, ltb-true, ltb-false, not-false}
 use Rattle.cost_queue.specs.Occurrences.{one_if, occurrences}
 use Rattle.lama_num.specs.Lists.{both}
 use Rattle.lama_num.specs.declared.estimates.Estimate.{Estimate}
@@ -32,11 +33,7 @@ reached_small t fact is = let parts = both (is_settled t fact) (nat_le (cost_at 
 
 -- what is settled, and not left out, is reached
 pub reached_if : (t : Settlement) (fact : ℕ) → is_settled t fact ≡ true → is_left_out t fact ≡ false → is_reached t fact ≡ true
-reached_if t fact is kept = by_test (nat_le (cost_at t fact) 1000000000) (rw is at kept)
-  where
-    by_test : (b : Bool) → (true && not b) ≡ false → (is_settled t fact && b) ≡ true
-    by_test true kept = rw is refl
-    by_test false kept = let k : true ≡ false = kept in cc
+reached_if t fact is kept = rw is (not-false _ (rw is at kept))
 
 -- what isn't settled is neither reached nor left out
 pub unsettled_not : (t : Settlement) (fact : ℕ) → is_settled t fact ≡ false → (is_reached t fact ≡ false) × (is_left_out t fact ≡ false)
@@ -45,33 +42,20 @@ unsettled_not t fact is = (rw is refl, rw is refl)
 -- where settled facts cost the same, the same is reached
 pub reached_same : (t u : Settlement) → u.settled ≡ t.settled → ((fact : ℕ) → is_settled t fact ≡ true → cost_at u fact ≡ cost_at t fact) →
     (fact : ℕ) → (is_reached u fact ≡ is_reached t fact) × (is_left_out u fact ≡ is_left_out t fact) × (share u fact ≡ share t fact)
-reached_same t u settled kept fact = by_test (is_settled t fact) refl
-  where
-    same : is_settled u fact ≡ is_settled t fact
-    same = ap (λ (fs : List Bool). get_or fs fact false) settled
-
-    by_test : (b : Bool) → is_settled t fact ≡ b → (is_reached u fact ≡ is_reached t fact) × (is_left_out u fact ≡ is_left_out t fact) × (share u fact ≡ share t fact)
-    by_test true is = let cost = kept fact is in (rw (same, cost) refl, rw (same, cost) refl, rw (same, cost) refl)
-    by_test false is = let now : is_settled u fact ≡ false = same ∙ is in (rw (now, is) refl, rw (now, is) refl, rw (now, is) refl)
+reached_same t u settled kept fact =
+    let same : is_settled u fact ≡ is_settled t fact = ap (λ (fs : List Bool). get_or fs fact false) settled in
+    (grind (arith, same, kept fact), grind (arith, same, kept fact), grind (arith, same, kept fact))
 
 -- a sum where one summand changed
 pub sum_changed : (f g : ℕ → ℕ) (fact x y : ℕ) (conds : List ℕ) → f fact ≡ x → g fact ≡ y → ((c : ℕ) → c ≢ fact → g c ≡ f c) → summed g conds + occurrences fact conds * x ≡ summed f conds + occurrences fact conds * y
 sum_changed f g fact x y [] was is others = omega arith
 sum_changed f g fact x y (c ∷ conds) was is others =
-    let rest = sum_changed f g fact x y conds was is others in
-    elim (places fact c) [
-      | inl here ↦ let before = ap f (sym here.0) ∙ was in let now = ap g (sym here.0) ∙ is in rw here.1 (omega (arith, rest, before, now))
-      | inr there ↦ let same = others c (λ e. there.0 (sym e)) in rw there.1 (omega (arith, rest, same))
-    ]
+    grind (arith, nat_tests, sum_changed f g fact x y conds was is others, was, is, others c)
 
 -- all conditions are reached where none is open
 pub all_reached : (t : Settlement) (conds : List ℕ) → summed (one_open t) conds ≡ 0 → list_all (is_reached t) conds ≡ true
 all_reached t [] none = refl
-all_reached t (c ∷ conds) none = by_test (is_reached t c) none (λ rest. all_reached t conds rest)
-  where
-    by_test : (b : Bool) → one_if (not b) + summed (one_open t) conds ≡ 0 → (summed (one_open t) conds ≡ 0 → list_all (is_reached t) conds ≡ true) → (b && list_all (is_reached t) conds) ≡ true
-    by_test true none rest = rest (omega arith)
-    by_test false none rest = absurd (omega arith)
+all_reached t (c ∷ conds) none = grind (arith, none, all_reached t conds)
 
 -- what is paid for conditions, all reached, is their sum
 pub total_paid : (v : ℕ → Estimate) (t : Settlement) (conds : List ℕ) → ((fact : ℕ) → is_reached t fact ≡ true → v fact ≡ Finite (cost_at t fact)) → summed (one_open t) conds ≡ 0 → total v conds ≡ Finite (min (summed (share t) conds) 1000000000)
@@ -268,10 +252,7 @@ module _ (unaries : List Unary) (level place : ℕ) (t : Settlement) (lt : place
   better fact cost within in_waiting gives none cost_is less new = steps_way fact now gives (record {
     counted = record { settled = refl; order = refl; costs_long = length-set t.costs fact cost; waiting_long = length-set t.waiting place (Some cost); kept = λ f is. cost_there f (λ e. let k : true ≡ false = sym is ∙ (ap (is_settled t) e ∙ new) in cc) };
     opens = refl;
-    less = λ f. elim (places f fact) [
-      | inl here ↦ rw here.0 (let is = cost_here in let was = get_or_default t.costs fact 0 4294967295 within in omega (arith, is, was, less))
-      | inr there ↦ let same = cost_there f there.0 in omega (arith, same)
-    ];
+    less = λ f. grind (arith, nat_tests, cost_here, get_or_default t.costs fact 0 4294967295 within, less, cost_there f);
     own = λ zero kept. (let is = cost_here in omega (arith, is, cost_is));
     waits = λ other price waiting. elim (places other place) [
       | inl here ↦

@@ -1,7 +1,7 @@
 -- Lists that grow by a place.
-use Rattle.std.proofs.Common.{◌≡◌, ◌∙◌, sym, ap, refl, ℕ, ◌+◌, ◌<◌, ◌≤◌, inl, inr, List, [], ◌∷◌, ◌++◌, length, get_or, take, drop, ◌-◌, map, Bool, true, false, nat_eq, arith, Some, slice_get, slice_set, get_or-set_other, get_or-set_same, if◌then◌else◌}
+use Rattle.std.proofs.Common.{◌≡◌, ◌∙◌, sym, ap, refl, ℕ, ◌+◌, ◌<◌, ◌≤◌, inl, inr, List, [], ◌∷◌, ◌++◌, length, get_or, take, drop, ◌-◌, map, Bool, true, nat_eq, arith, Some, slice_get, slice_set, get_or-set_other, get_or-set_same, if◌then◌else◌}
 use Rattle.std.specs.List.{list_all}
-use Rattle.std.proofs.lemmas.Bool.{cases_lt, cases_order, eq-eqb, lt-ltb, ltb-true, ne_eqb}
+use Rattle.std.proofs.lemmas.Bool.{ltb-true}
 use Rattle.std.proofs.lemmas.Bool.Decides.{nat_tests}
 use Rattle.std.proofs.lemmas.List.{append-nil, drop_all, get_or-map, get_or_append_left, get_or_default, get_or_past, get_or_push, length-map, length-set, length-take-le, length_push, map_more, take_all, take_more}
 use Rattle.std.proofs.lemmas.Option.{get_or_from_slice_get, slice_get_read, slice_get_within}
@@ -28,10 +28,7 @@ fact_added old mid new facts k fact place lt at within is so = record {
 }
   where
     by_tests : (b c : Bool) (x y z m n : ℕ) → y ≡ x + (if b then m else 0) → z ≡ y + (if c then one_if b else 0) → n ≡ m + one_if c → z ≡ x + (if b then n else 0)
-    by_tests true true x y z m n before grows longer = omega arith
-    by_tests true false x y z m n before grows longer = omega arith
-    by_tests false true x y z m n before grows longer = omega arith
-    by_tests false false x y z m n before grows longer = omega arith
+    by_tests b c x y z m n before grows longer = grind (arith, before, grows, longer)
 
     grown : (f i : ℕ) → occurrences i (row_at (slice_set mid fact (row_at mid fact ++ place ∷ [])) f) ≡ occurrences i (row_at mid f) + (if nat_eq f fact then one_if (nat_eq i place) else 0)
     grown f i = elim (places f fact) [
@@ -42,13 +39,7 @@ fact_added old mid new facts k fact place lt at within is so = record {
 
 -- one unary operator more
 pushed : (xs : List ℕ) (y k i : ℕ) → length xs ≡ k → get_or xs i 0 + (if nat_eq i k then y else 0) ≡ get_or (xs ++ y ∷ []) i 0
-pushed xs y k i long = elim (cases_order i k) [
-  | inl same ↦ let was = get_or_past xs i 0 (omega arith) in let now = get_or_push xs y 0 i (long ∙ sym same) in rw (eq-eqb i k same) (omega (arith, was, now))
-  | inr apart ↦ rw (ne_eqb i k (λ e. absurd (omega arith))) (elim apart [
-    | inl lt ↦ let kept = get_or_append_left xs (y ∷ []) 0 i (omega arith) in omega (arith, kept)
-    | inr gt ↦ let was = get_or_past xs i 0 (omega arith) in let longer = length_push xs y in let now = get_or_past (xs ++ y ∷ []) i 0 (omega (arith, longer)) in omega (arith, was, now)
-  ])
-]
+pushed xs y k i long = grind (arith, nat_tests, long, get_or_past xs i 0, get_or_push xs y 0 i, get_or_append_left xs (y ∷ []) 0 i, length_push xs y, get_or_past (xs ++ y ∷ []) i 0)
 
 pub needed_more : (unaries : List Unary) (always k : ℕ) (u : Unary) (old new : List (List ℕ)) → k < length unaries → u ≡ get_or unaries k u → Listed old new (needed always u.conds) k → IsNeeds (take k unaries) always old → IsNeeds (take (k + 1) unaries) always new
 needed_more unaries always k u old new lt read grown so fact i =
@@ -66,10 +57,7 @@ needed_at unaries always fact row needs i u at =
 -- a row has places of unary operators alone
 all_within : (n : ℕ) (row : List ℕ) → ((i : ℕ) → n ≤ i → occurrences i row ≡ 0) → are_places n row ≡ true
 all_within n [] none = refl
-all_within n (c ∷ row) none = elim (cases_lt c n) [
-  | inl lt ↦ rw (lt-ltb c n lt) (all_within n row (λ i le. let all = none i le in omega (arith, all)))
-  | inr le ↦ absurd (let all = none c le in let one : one_if (nat_eq c c) ≡ 1 = ap one_if (eq-eqb c c refl) in omega (arith, all, one))
-]
+all_within n (c ∷ row) none = let rest = all_within n row (λ i le. let all = none i le in omega (arith, all)) in grind (arith, nat_tests, rest, none c)
 
 pub row_within : (unaries : List Unary) (always fact : ℕ) (row : List ℕ) → IsNeededBy unaries always fact row → are_places (length unaries) row ≡ true
 row_within unaries always fact row needs =
@@ -79,9 +67,7 @@ row_within unaries always fact row needs =
 pub gives_below : (n : ℕ) (unaries : List Unary) → list_all (is_unary_below n) unaries ≡ true → are_below n (map (λ u. u.gives) unaries) ≡ true
 gives_below n [] all = refl
 gives_below n (u ∷ unaries) all =
-    let parts = both (is_unary_below n u) (list_all (is_unary_below n) unaries) all in
-    let here = both (list_all (is_below n) u.conds) (is_below n u.gives) parts.0 in
-    rw here.1 (gives_below n unaries parts.1)
+    grind (arith, all, gives_below n unaries)
 
 pub below_at : (n : ℕ) (facts : List ℕ) (i x : ℕ) → are_below n facts ≡ true → i < length facts → x ≡ get_or facts i 0 → x < n
 below_at n facts i x all lt at = ltb-true x n (list_all_get (is_below n) facts i x all (slice_get_read facts (length facts) i x refl lt (at ∙ get_or_default facts i 0 x lt)))
@@ -108,12 +94,8 @@ free_of_needs unaries always row below needs i u at = needed_at unaries always a
     none_above : (conds : List ℕ) → list_all (is_below always) conds ≡ true → occurrences always conds ≡ 0
     none_above [] all = refl
     none_above (c ∷ conds) all =
-        let parts = both (is_below always c) (list_all (is_below always) conds) all in
-        let other : nat_eq always c ≡ false = grind (arith, nat_tests, parts.0) in
-        let here : one_if (nat_eq always c) ≡ 0 = ap one_if other in
-        let rest = none_above conds parts.1 in
-        omega arith
+        grind (arith, nat_tests, all, none_above conds)
 
     by_conds : (conds : List ℕ) → list_all (is_below always) conds ≡ true → occurrences always (needed always conds) ≡ 1 - length conds
-    by_conds [] all = ap (λ (b : Bool). one_if b + 0) (eq-eqb always always refl)
+    by_conds [] all = grind (arith, nat_tests)
     by_conds (c ∷ conds) all = let none = none_above (c ∷ conds) all in omega arith

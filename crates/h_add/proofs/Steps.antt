@@ -1,7 +1,8 @@
 -- One fact after the other is settled, or passed over, and what is reached costs what it does by the rounds.
 use Rattle.std.proofs.Common.{◌≡◌, ◌≢◌, ◌∙◌, sym, ap, subst, refl, ℕ, ◌+◌, ◌*◌, ◌<◌, ◌≤◌, ◌⊎◌, inl, inr, List, [], ◌∷◌, ◌++◌, length, get_or, min, Bool, true, false, nat_eq, nat_le, not, ◌&&◌, ◌||◌, if◌then◌else◌, arith, Option, Some, None, slice_get, slice_set, get_or-set_other, get_or-set_same, append_assoc, max, take, zero, suc, nat_lt}
 use Rattle.std.proofs.Math.Bool.{or_assoc, or-false, or-true, and-true}
-use Rattle.std.proofs.lemmas.Bool.{eq-eqb, and_right, or_parts, lt-ltb, cases_lt, eqb-true, le-leb, or_cases, lt-leb, ltb-true, false_from_ne_true, leb-true, leb-false}
+use Rattle.std.proofs.lemmas.Bool.Decides.{nat_tests}
+use Rattle.std.proofs.lemmas.Bool.{cases_Bool, eq-eqb, and_right, or_parts, lt-ltb, cases_lt, eqb-true, le-leb, or_cases, lt-leb, false_from_ne_true}
 use Rattle.std.proofs.lemmas.List.{length-set, set_past, map-append, append-nil, set-get_or, take_more, take_all, get_or-map, length-map}
 use Rattle.std.proofs.lemmas.List.Folds.{list_any-append, list_any_more}
 use Rattle.std.proofs.lemmas.List.Sums.{sum_by-set, count_by-le-length}
@@ -15,23 +16,23 @@ use Rattle.relaxed_task.specs.PlanLaws.{all_has}
 use Rattle.relaxed_task.specs.Numbers.{is_among, is_below, over_numbers}
 use Rattle.relaxed_task.specs.declared.unary.Unary.{Unary}
 use Rattle.h_add.specs.declared.network.Open.{Open}
-use Rattle.h_add.specs.UnderWay.{Settlement, cost_at, is_settled, is_reached, is_left_out, open_at, unsettled, given_at, there_at, one_open, share, summed, IsCounted, IsWaiting, IsUnderWay, left_to_do, IsFrom, HasCounted, IsSettling, IsLater, IsFresh, HasMarked, IsWanted, HasSettled, AreSettled}
+use Rattle.h_add.specs.UnderWay.{Settlement, cost_at, is_settled, is_reached, is_left_out, open_at, unsettled, given_at, there_at, one_open, share, summed, IsCounted, IsUnderWay, left_to_do, IsFrom, HasCounted, IsSettling, IsLater, IsFresh, HasMarked, IsWanted, HasSettled, AreSettled}
 use Rattle.h_add.proofs.Counting.{none_counted, reached_if, unsettled_not, sum_changed, reached_same, all_reached, There, unary_there, finite_is, infinite_is, reached_small, price_sum}
 use Rattle.std.specs.List.{list_all}
 use Rattle.std.proofs.Math.Path.{fun_ext}
 use Rattle.std.proofs.lemmas.Option.{slice_get_within, get_or_from_slice_get}
 use Rattle.lama_num.specs.Lists.{both}
-use Rattle.h_add.specs.ByNumber.{IsInOrder, price, is_started, add_round, IsClosed, AreBest, IsBest, start_facts, IsAdd}
+use Rattle.h_add.specs.ByNumber.{price, is_started, add_round, start_facts, IsAdd}
 use Rattle.h_add.specs.Orders.{chosen, given_by, are_places, IsOrder}
 use Rattle.h_add.specs.Laws.{chosen_grows}
 use Rattle.h_add.specs.Networks.{needed, IsNeededBy, AreFree, open_at_start}
 use Rattle.h_add.proofs.Growing.{needed_at, written_back}
 use Rattle.lama_num.specs.declared.estimates.Estimate.{Estimate}
 use Rattle.lama_num.specs.declared.estimates.Estimate.TheVariants.{Finite, Infinite}
-use Rattle.relaxed_task.specs.CostLaws.{price_at_most, price_attained, sum_capped}
+use Rattle.relaxed_task.specs.CostLaws.{IsClosed, price_at_most, price_attained, sum_capped}
 use Rattle.relaxed_task.specs.EstimateLaws.{at_most_self, at_most_trans, at_most_infinite, both_at_least, IsCapped, at_most_both, least_left, least_right, plus_left, plus_right}
 use Rattle.relaxed_task.specs.Estimates.{least, IsAtMost, is_finite, IsLeast}
-use Rattle.relaxed_task.specs.Relaxing.{least_price, sum_of as total}
+use Rattle.relaxed_task.specs.Relaxing.{AreBest, IsBest, IsInOrder, least_price, sum_of as total}
 use Rattle.lama_num.specs.Estimates.{estimate_sum}
 use Rattle.h_add.specs.Values.{estimate_of, value_at, IsEvaluatedByNumber}
 use Rattle.sas_task.specs.declared.contents.CostKind.{CostKind}
@@ -45,10 +46,7 @@ after t fact cost waiting order = record { costs = slice_set t.costs fact cost; 
 
 -- a flag more
 pub flagged : (flags : List Bool) (fact f : ℕ) → fact < length flags → get_or (slice_set flags fact true) f false ≡ (get_or flags f false || nat_eq f fact)
-flagged flags fact f lt = elim (places f fact) [
-  | inl here ↦ rw (here.1, here.0) (get_or-set_same flags fact true false lt ∙ sym (or-true (get_or flags fact false)))
-  | inr there ↦ rw there.1 (get_or-set_other flags fact f true false there.0 ∙ sym (or-false (get_or flags f false)))
-]
+flagged flags fact f lt = grind (arith, nat_tests, get_or-set_same flags fact true false lt, get_or-set_other flags fact f true false)
 
 -- A fact that isn't settled, is settled at a cost.
 module _ (t : Settlement) (fact cost : ℕ) (waiting : List (Option ℕ)) (order : List ℕ) (within : fact < length t.costs) (in_flags : fact < length t.settled) (new : is_settled t fact ≡ false) (small : cost ≤ 1000000000) where
@@ -77,10 +75,7 @@ module _ (t : Settlement) (fact cost : ℕ) (waiting : List (Option ℕ)) (order
   reached_there f ne = rw (settled_there f ne, cost_there f ne) refl
 
   pub kept : (f : ℕ) → is_left_out next f ≡ is_left_out t f
-  kept f = elim (places f fact) [
-    | inl here ↦ rw here.0 (rw (settled_is, little, new) refl)
-    | inr there ↦ rw (settled_there f there.0, cost_there f there.0) refl
-  ]
+  kept f = grind (arith, nat_tests, settled_is, little, new, settled_there f, cost_there f)
 
   -- It costs no less than what is settled and no more than what waits: those that need it have to count it.
   pub settle_way : (unaries : List Unary) (level : ℕ) (row : List ℕ) → cost ≤ cost_at t fact → level ≤ cost →
@@ -104,7 +99,7 @@ module _ (t : Settlement) (fact cost : ℕ) (waiting : List (Option ℕ)) (order
           count = omega (arith, count_was, fewer, as_often);
           sum = omega (arith, sum_was, more, times);
           small = was.small;
-          offered = λ none stays. (let le = was.offered none (sym (kept u.gives) ∙ stays) in let down = less u.gives in omega (arith, le, down));
+          offered = λ none stays. (let le = was.offered none (sym (kept u.gives) ∙ stays) in grind (arith, nat_tests, le, cost_is, cost_there u.gives, cheap));
         });
     waits = λ place price at. (let was = sub place price at in let before = way.waits place price was.0 in record { none_open = before.none_open; price_is = before.price_is; above = was.1 });
     wanted = λ f fresh low. elim (places f fact) [
@@ -114,10 +109,7 @@ module _ (t : Settlement) (fact cost : ℕ) (waiting : List (Option ℕ)) (order
           let was = way.wanted f (sym (settled_there f there.0) ∙ fresh) (omega arith) in
           record { place = was.place; unary = was.unary; at = was.at; gives = was.gives; waits = still was.place was.unary was.at (λ e. there.0 (sym was.gives ∙ e)) (cost_at t f) was.waits ∙ ap (λ (n : ℕ). Some n) (sym same) }
     ];
-    low = λ f is. elim (places f fact) [
-      | inl here ↦ rw here.0 (let same = cost_is in omega arith)
-      | inr there ↦ let same = cost_there f there.0 in let le = way.low f (sym (reached_there f there.0) ∙ is) in omega arith
-    ];
+    low = λ f is. grind (arith, nat_tests, cost_is, cost_there f, reached_there f, way.low f, above, is);
     settled_by = λ place among. elim (ordered place among) [
       | inl before ↦
           let was = way.settled_by place before in
@@ -126,12 +118,6 @@ module _ (t : Settlement) (fact cost : ℕ) (waiting : List (Option ℕ)) (order
       | inr last ↦ record { unary = last.0; at = last.1; none_open = last.2; reached = rw (← last.3) reached_is; pays = rw (← last.3) (cost_is ∙ last.4) }
     ];
   }
-    where
-      less : (f : ℕ) → cost_at next f ≤ cost_at t f
-      less f = elim (places f fact) [
-        | inl here ↦ rw here.0 (let same = cost_is in omega arith)
-        | inr there ↦ let same = cost_there f there.0 in omega arith
-      ]
 
 -- what a unary operator that is taken asks for is what its fact costs
 pub record Pays (level : ℕ) (t : Settlement) (entry : Entry) (fact : ℕ) : Type 0 where
@@ -174,7 +160,7 @@ taken_still unaries old new entry u fact at gives taken place x at_x ne price wa
 pub passed_way : (unaries : List Unary) (level : ℕ) (t : Settlement) (waiting : List (Option ℕ)) (entry : Entry) (u : Unary) (fact : ℕ) → slice_get unaries entry.number ≡ Some u → fact ≡ u.gives → IsTaken t.waiting waiting entry → is_settled t fact ≡ true → IsUnderWay unaries level [] t →
     IsUnderWay unaries entry.price [] (record t { waiting = waiting })
 passed_way unaries level t waiting entry u fact at gives taken old way = record {
-  level_small = let small = (way.each entry.number u at).small in let is = waits.price_is in omega arith;
+  level_small = let small = (way.each entry.number u at).small in let is = (way.waits entry.number entry.price taken.waited).price_is in omega arith;
   opens_long = way.opens_long;
   each = λ place x at_x. (let was = way.each place x at_x in let sum = was.sum in record { count = was.count; sum = omega (arith, sum); small = was.small; offered = was.offered });
   waits = λ place price now. (let was = taken_sub t.waiting waiting entry taken place price now in let before = way.waits place price was.0 in record { none_open = before.none_open; price_is = before.price_is; above = was.1 });
@@ -182,12 +168,9 @@ passed_way unaries level t waiting entry u fact at gives taken old way = record 
       (let was = way.wanted f fresh small in
       let ne : was.unary.gives ≢ fact = λ e. (let k : true ≡ false = sym old ∙ (ap (is_settled t) (sym e ∙ was.gives) ∙ fresh) in absurd cc) in
       record { place = was.place; unary = was.unary; at = was.at; gives = was.gives; waits = taken_still unaries t.waiting waiting entry u fact at gives taken was.place was.unary was.at ne (cost_at t f) was.waits });
-  low = λ f is. (let le = way.low f is in let above = waits.above in omega arith);
+  low = λ f is. (let le = way.low f is in let above = (way.waits entry.number entry.price taken.waited).above in omega arith);
   settled_by = λ place among. (let was = way.settled_by place among in record { unary = was.unary; at = was.at; none_open = was.none_open; reached = was.reached; pays = was.pays });
 }
-  where
-    waits : IsWaiting t level entry.number entry.price
-    waits = way.waits entry.number entry.price taken.waited
 
 -- what is left to do
 abbrev one_left : Bool → ℕ
@@ -195,31 +178,19 @@ one_left flag = if not flag then 1 else 0
 
 pub fewer_unsettled : (flags : List Bool) (fact : ℕ) → fact < length flags → get_or flags fact false ≡ false → unsettled (slice_set flags fact true) + 1 ≡ unsettled flags
 fewer_unsettled flags fact lt new =
-    let more = sum_by-set one_left flags fact true false lt in
-    let was : one_left (get_or flags fact false) ≡ 1 = ap one_left new in
-    omega (arith, more, was)
+    grind (arith, sum_by-set one_left flags fact true false lt, new)
 
 pub fewer_or_same : (flags : List Bool) (fact : ℕ) → unsettled (slice_set flags fact true) ≤ unsettled flags
-fewer_or_same flags fact = elim (cases_lt fact (length flags)) [
-  | inl lt ↦ let more = sum_by-set one_left flags fact true false lt in omega (arith, more)
-  | inr past ↦ rw (set_past flags fact true past) (omega arith)
-]
+fewer_or_same flags fact = grind (arith, sum_by-set one_left flags fact true false, set_past flags fact true)
 
 pub few_unsettled : (flags : List Bool) → unsettled flags ≤ length flags
 few_unsettled flags = count_by-le-length not flags
 
 -- one more in an order
 pub turned : (x : ℕ) (facts more : List ℕ) → is_among (facts ++ x ∷ more) ≡ is_among (x ∷ (facts ++ more))
-turned x facts more = fun_ext (λ fact.
-    list_any-append (nat_eq fact) facts (x ∷ more) ∙ (turn (is_among facts fact) (nat_eq fact x) (is_among more fact) ∙ ap (λ (b : Bool). nat_eq fact x || b) (sym (list_any-append (nat_eq fact) facts more))))
-  where
-    turn : (a b c : Bool) → (a || (b || c)) ≡ (b || (a || c))
-    turn true true c = refl
-    turn true false c = refl
-    turn false true c = refl
-    turn false false c = refl
+turned x facts more = fun_ext (λ fact. grind (arith, list_any-append (nat_eq fact) facts (x ∷ more), list_any-append (nat_eq fact) facts more))
 
-order_grows : (facts : List ℕ) (list : List Unary) (u : Unary) → IsInOrder facts list → list_all (is_among (facts ++ given_by list)) u.conds ≡ true → is_among (facts ++ given_by list) u.gives ≡ false → IsInOrder facts (list ++ u ∷ [])
+order_grows : (facts : List ℕ) (list : List Unary) (u : Unary) → IsInOrder over_numbers facts list → list_all (is_among (facts ++ given_by list)) u.conds ≡ true → is_among (facts ++ given_by list) u.gives ≡ false → IsInOrder over_numbers facts (list ++ u ∷ [])
 order_grows facts [] u order conds new = (rw append-nil at conds, rw append-nil at new, tt)
 order_grows facts (x ∷ list) u order conds new = (
   order.0,
@@ -235,12 +206,7 @@ gained unaries had order = had ++ given_by (chosen unaries order)
 
 -- what is left out is settled, but not reached
 pub from_reached : (unaries : List Unary) (without had : List ℕ) (t : Settlement) (fact : ℕ) → IsFrom unaries without had t → is_reached t fact ≡ (is_among (gained unaries had t.order) fact && not (is_among without fact))
-from_reached unaries without had t fact from = by_flags (is_settled t fact) (nat_le (cost_at t fact) 1000000000) (is_among without fact) (is_among (gained unaries had t.order) fact) (from.out fact) (from.settled fact)
-  where
-    by_flags : (a b w g : Bool) → (a && not b) ≡ w → a ≡ (w || g) → (a && b) ≡ (g && not w)
-    by_flags true true w g out is = rw (← out, ← (rw (← out) at is)) refl
-    by_flags true false w g out is = rw (← out) (sym (and_right g false refl))
-    by_flags false b w g out is = rw (← (rw (← out) at is)) refl
+from_reached unaries without had t fact from = grind (arith, from.out fact, from.settled fact)
 
 first_settled : (unaries : List Unary) (without had : List ℕ) (t : Settlement) (fact : ℕ) → is_among had fact ≡ true → IsFrom unaries without had t → is_settled t fact ≡ true
 first_settled unaries without had t fact among from = from.settled fact ∙ rw (list_any-append (nat_eq fact) had (given_by (chosen unaries t.order)), among) (or-true (is_among without fact))
@@ -259,11 +225,7 @@ taken_within unaries t mid entry taken long s = let lt = there t.waiting entry.n
 
 -- a fact that is there is needed by those that have it as a condition
 pub needed_same : (always fact : ℕ) (conds : List ℕ) → fact < always → occurrences fact (needed always conds) ≡ occurrences fact conds
-needed_same always fact [] lt = by_place (places fact always)
-  where
-    by_place : ((fact ≡ always) × (nat_eq fact always ≡ true)) ⊎ ((fact ≢ always) × (nat_eq fact always ≡ false)) → one_if (nat_eq fact always) + 0 ≡ 0
-    by_place (inl here) = let same = here.0 in absurd (omega arith)
-    by_place (inr other) = ap (λ (b : Bool). one_if b + 0) other.1 ∙ omega arith
+needed_same always fact [] lt = grind (arith, nat_tests, lt)
 needed_same always fact (c ∷ conds) lt = refl
 
 settled_mid : (t mid : Settlement) (fact : ℕ) (b : Bool) → mid ≡ record t { waiting = mid.waiting } → is_settled mid fact ≡ b → is_settled t fact ≡ b
@@ -292,7 +254,8 @@ step_given unaries facts t mid now row fact entry facts_is settled_long waiting_
     out = λ f. kept t fact entry.price mid.waiting order within in_flags new p.small f ∙ from.out f;
     settled = λ f. flagged t.settled fact f in_flags ∙ (ap (λ (b : Bool). b || nat_eq f fact) (from.settled f) ∙ (or_assoc (is_among without f) (is_among (gained unaries had t.order) f) (nat_eq f fact) ∙ ap (λ (b : Bool). is_among without f || b) (more had f)));
     first = λ f among stays. cost_there t fact entry.price mid.waiting order within in_flags new p.small f (λ e. let k : true ≡ false = sym (first_settled unaries without had t f among from) ∙ (ap (is_settled t) e ∙ new) in cc) ∙ from.first f among stays;
-    in_order = rw grows (order_grows had (chosen unaries t.order) u.unary from.in_order (reached_had without had u.unary.conds from conds)
+    in_order = rw grows (order_grows had (chosen unaries t.order) u.unary from.in_order
+        (weaker (is_reached t) (is_among (gained unaries had t.order)) u.unary.conds (λ f is. (both (is_among (gained unaries had t.order) f) (not (is_among without f)) (sym (from_reached unaries without had t f from) ∙ is)).0) conds)
         (rw given at (or_parts (is_among without fact) (is_among (gained unaries had t.order) fact) (sym (from.settled fact) ∙ new)).1));
   };
   new = new;
@@ -338,9 +301,6 @@ step_given unaries facts t mid now row fact entry facts_is settled_long waiting_
 
     conds : list_all (is_reached t) u.unary.conds ≡ true
     conds = all_reached t u.unary.conds (let count = (s.way.each entry.number u.unary u.at).count in let none = p.none_open in omega (arith, count, none))
-
-    reached_had : (without had list : List ℕ) → IsFrom unaries without had t → list_all (is_reached t) list ≡ true → list_all (is_among (gained unaries had t.order)) list ≡ true
-    reached_had without had list from all = weaker (is_reached t) (is_among (gained unaries had t.order)) list (λ f is. (both (is_among (gained unaries had t.order) f) (not (is_among without f)) (sym (from_reached unaries without had t f from) ∙ is)).0) all
 
 -- and all that need the fact count it
 pub given_later : (unaries : List Unary) (t now last : Settlement) (fact price : ℕ) (row : List ℕ) → IsGiven unaries t now fact price row → IsUnderWay unaries price [] last → HasCounted now last → IsLater unaries t last
@@ -395,11 +355,7 @@ none_later unaries t mid mid_is same s = rw (mid_is, same) (now_later unaries t 
 
 -- nothing is reached
 none_reached : (unaries : List Unary) (t : Settlement) → IsFresh unaries t → (fact : ℕ) → is_reached t fact ≡ false
-none_reached unaries t f fact = let large = lt-leb (cost_at t fact) 1000000000 (f.costs fact) in rw large (never (is_settled t fact))
-  where
-    never : (b : Bool) → (b && false) ≡ false
-    never true = refl
-    never false = refl
+none_reached unaries t f fact = let large = lt-leb (cost_at t fact) 1000000000 (f.costs fact) in rw large (and_right (is_settled t fact) false refl)
 
 none_summed : (f : ℕ → ℕ) (n : ℕ) (conds : List ℕ) → ((fact : ℕ) → f fact ≡ n) → summed f conds ≡ length conds * n
 none_summed f n [] same = omega arith
@@ -443,18 +399,11 @@ there_way unaries facts t now fact row facts_is settled_long within new is needs
 pub marked_more : (unaries : List Unary) (facts more : List ℕ) (s t now : Settlement) → HasMarked unaries facts s t → HasMarked unaries more t now → HasMarked unaries (facts ++ more) s now
 marked_more unaries facts more s t now a b = record {
   way = b.way;
-  settled = λ f. b.settled f ∙ rw (a.settled f, a.long, list_any-append (nat_eq f) facts more) (turn (is_settled s f) (is_among facts f) (is_among more f) (is_below (length s.costs) f));
+  settled = λ f. b.settled f ∙ rw (a.settled f, a.long, list_any-append (nat_eq f) facts more) (grind arith);
   out = λ f. b.out f ∙ a.out f;
   order = b.order ∙ a.order;
   long = b.long ∙ a.long;
 }
-  where
-    turn : (a b c n : Bool) → ((a || (b && n)) || (c && n)) ≡ (a || ((b || c) && n))
-    turn true b c n = refl
-    turn false true true true = refl
-    turn false true true false = refl
-    turn false true false n = or-false n
-    turn false false c n = refl
 
 pub counted_marked : (unaries : List Unary) (t now : Settlement) → IsUnderWay unaries 0 [] now → HasCounted t now → HasMarked unaries [] t now
 counted_marked unaries t now way counted = record {
@@ -479,10 +428,7 @@ all_marked unaries facts k s t le a = rw take_all at a
 pub there_marked : (unaries : List Unary) (t mid now : Settlement) (fact : ℕ) → length t.settled ≡ length t.costs → fact < length t.costs → is_settled t fact ≡ false → mid ≡ there_at t fact → IsUnderWay unaries 0 [] now → HasCounted mid now → HasMarked unaries (fact ∷ []) t now
 there_marked unaries t mid now fact long within new mid_is way counted = record {
   way = way;
-  settled = λ f. later.settled f ∙ (or-false (is_settled (there_at t fact) f) ∙ (flagged t.settled fact f (omega arith) ∙ elim (places f fact) [
-    | inl here ↦ rw (here.1, here.0, lt-ltb fact (length t.costs) within) refl
-    | inr apart ↦ rw apart.1 refl
-  ]));
+  settled = λ f. grind (arith, nat_tests, later.settled f, flagged t.settled fact f (omega arith), within);
   out = λ f. later.out f ∙ kept t fact 0 t.waiting t.order within (omega arith) new (omega arith) f;
   order = later.order;
   long = later.long ∙ length-set t.costs fact 0;
@@ -496,17 +442,13 @@ pub old_marked : (unaries : List Unary) (t : Settlement) (fact : ℕ) → (fact 
 old_marked unaries t fact old way = record {
   way = way;
   settled = λ f. elim (places f fact) [
-    | inl here ↦ rw (here.1, here.0) (by_test (is_below (length t.costs) fact) refl)
+    | inl here ↦ rw (here.1, here.0) (grind (arith, nat_tests, old))
     | inr apart ↦ rw apart.1 (sym (or-false (is_settled t f)))
   ];
   out = λ f. refl;
   order = refl;
   long = refl;
 }
-  where
-    by_test : (b : Bool) → is_below (length t.costs) fact ≡ b → is_settled t fact ≡ (is_settled t fact || b)
-    by_test true is = rw (old (ltb-true fact (length t.costs) is)) refl
-    by_test false is = sym (or-false (is_settled t fact))
 
 -- What is there after some facts were marked, where nothing was reached.
 pub begun : (unaries : List Unary) (without had : List ℕ) (t now : Settlement) → IsFresh unaries t → ((fact : ℕ) → is_settled t fact ≡ is_among without fact) → list_all (is_below (length t.costs)) had ≡ true → HasMarked unaries had t now → IsFrom unaries without had now
@@ -523,46 +465,41 @@ begun unaries without had t now fresh flags below marked = record {
     out : (f : ℕ) → is_left_out now f ≡ is_among without f
     out f = marked.out f ∙ (let large = lt-leb (cost_at t f) 1000000000 (fresh.costs f) in rw large (and-true (is_settled t f) ∙ flags f))
 
-    by_among : (f : ℕ) (b : Bool) → is_among had f ≡ b → (b && is_below (length t.costs) f) ≡ b
-    by_among f true among = all_has over_numbers (is_below (length t.costs)) had f below among
-    by_among f false among = refl
+    by_among : (f : ℕ) → (is_among had f && is_below (length t.costs) f) ≡ is_among had f
+    by_among f = grind (arith, all_has over_numbers (is_below (length t.costs)) had f below)
 
     settled : (f : ℕ) → is_settled now f ≡ (is_among without f || is_among (gained unaries had now.order) f)
-    settled f = rw (none, append-nil had) (marked.settled f ∙ rw (flags f, by_among f (is_among had f) refl) refl)
+    settled f = rw (none, append-nil had) (marked.settled f ∙ rw (flags f, by_among f) refl)
 
 -- one fact more is left out
 pub out_more : (numbers : List ℕ) (old new : List Bool) (k number : ℕ) → k < length numbers → number ≡ get_or numbers k 0 → number < length old → new ≡ slice_set old number true → ((fact : ℕ) → get_or old fact false ≡ is_among (take k numbers) fact) →
     (fact : ℕ) → get_or new fact false ≡ is_among (take (k + 1) numbers) fact
 out_more numbers old new k number lt at within is so fact = rw (is, list_any_more (nat_eq fact) numbers k 0 lt, ← at, ← so fact) (flagged old number fact within)
 
-below_least : (v w : ℕ → Estimate) (fact : ℕ) (without : List ℕ) (unaries : List Unary) → ((f : ℕ) → IsAtMost (v f) (w f)) → is_among without fact ≡ false → IsClosed unaries without v → IsAtMost (v fact) (least_price over_numbers w fact unaries)
+below_least : (v w : ℕ → Estimate) (fact : ℕ) (without : List ℕ) (unaries : List Unary) → ((f : ℕ) → IsAtMost (v f) (w f)) → is_among without fact ≡ false → IsClosed over_numbers unaries without v → IsAtMost (v fact) (least_price over_numbers w fact unaries)
 below_least v w fact without [] le stays closed = at_most_infinite (v fact)
-below_least v w fact without (u ∷ unaries) le stays closed = by_test (nat_eq u.gives fact) refl (below_least v w fact without unaries le stays (λ i. closed (suc i)))
-  where
-    by_test : (b : Bool) → nat_eq u.gives fact ≡ b → IsAtMost (v fact) (least_price over_numbers w fact unaries) →
-        IsAtMost (v fact) (if b then least (price w u) (least_price over_numbers w fact unaries) else least_price over_numbers w fact unaries)
-    by_test true is rest =
-        let same = eqb-true u.gives fact is in
-        let own = at_most_trans (v u.gives) (price v u) (price w u) (closed 0 u refl (ap (is_among without) same ∙ stays)) (price_at_most over_numbers v w u le) in
-        both_at_least (v fact) (price w u) (least_price over_numbers w fact unaries) (subst (λ (f : ℕ). IsAtMost (v f) (price w u)) same own) rest
-    by_test false is rest = rest
+below_least v w fact without (u ∷ unaries) le stays closed =
+    let rest = below_least v w fact without unaries le stays (λ i. closed (suc i)) in
+    elim (places u.gives fact) [
+      | inl here ↦ rw here.1 (both_at_least (v fact) (price w u) (least_price over_numbers w fact unaries)
+          (rw (← here.0) (at_most_trans (v u.gives) (price v u) (price w u) (closed 0 u refl (rw here.0 stays)) (price_at_most over_numbers v w u le))) rest)
+      | inr other ↦ rw other.1 rest
+    ]
 
 -- costs that no unary operator lowers are below all rounds
-pub closed_is_below : (unaries : List Unary) (start without : List ℕ) (v : ℕ → Estimate) → ((fact : ℕ) → is_started start without fact ≡ true → v fact ≡ Finite 0) → IsClosed unaries without v →
+pub closed_is_below : (unaries : List Unary) (start without : List ℕ) (v : ℕ → Estimate) → ((fact : ℕ) → is_started start without fact ≡ true → v fact ≡ Finite 0) → IsClosed over_numbers unaries without v →
     (n fact : ℕ) → IsAtMost (v fact) (add_round unaries start without n fact)
-closed_is_below unaries start without v first closed zero fact = by_test (is_started start without fact) refl
-  where
-    by_test : (b : Bool) → is_started start without fact ≡ b → IsAtMost (v fact) (if b then Finite 0 else Infinite)
-    by_test true is = rw (first fact is) (at_most_self (Finite 0))
-    by_test false is = at_most_infinite (v fact)
-closed_is_below unaries start without v first closed (suc n) fact = by_test (is_among without fact) refl (closed_is_below unaries start without v first closed n)
-  where
-    by_test : (b : Bool) → is_among without fact ≡ b → ((f : ℕ) → IsAtMost (v f) (add_round unaries start without n f)) →
-        IsAtMost (v fact) (if b then Infinite else least (add_round unaries start without n fact) (least_price over_numbers (add_round unaries start without n) fact unaries))
-    by_test true out before = at_most_infinite (v fact)
-    by_test false stays before =
-        both_at_least (v fact) (add_round unaries start without n fact) (least_price over_numbers (add_round unaries start without n) fact unaries) (before fact)
-        (below_least v (add_round unaries start without n) fact without unaries before stays closed)
+closed_is_below unaries start without v first closed zero fact = elim (cases_Bool (is_started start without fact)) [
+  | inl is ↦ rw (is, first fact is) (at_most_self (Finite 0))
+  | inr is ↦ rw is (at_most_infinite (v fact))
+]
+closed_is_below unaries start without v first closed (suc n) fact =
+    let before = closed_is_below unaries start without v first closed n in
+    elim (cases_Bool (is_among without fact)) [
+      | inl out ↦ rw out (at_most_infinite (v fact))
+      | inr stays ↦ rw stays (both_at_least (v fact) (add_round unaries start without n fact) (least_price over_numbers (add_round unaries start without n) fact unaries) (before fact)
+          (below_least v (add_round unaries start without n) fact without unaries before stays closed))
+    ]
 
 -- what facts cost so far, at most so much
 abbrev upto : Settlement → Estimate → ℕ → Estimate
@@ -580,13 +517,12 @@ least_is a b le = at_most_both (least a b) a (least_left a b) (both_at_least a a
 -- where some condition isn't reached the sum is no less
 some_more : (t : Settlement) (top : Estimate) (conds : List ℕ) → Bounds t top → 0 < summed (one_open t) conds → IsAtMost top (total (upto t top) conds)
 some_more t top [] p some = absurd (omega arith)
-some_more t top (c ∷ conds) p some = by_test (is_reached t c) refl some (λ rest. some_more t top conds p rest)
-  where
-    by_test : (b : Bool) → is_reached t c ≡ b → 0 < one_if (not b) + summed (one_open t) conds → (0 < summed (one_open t) conds → IsAtMost top (total (upto t top) conds)) → IsAtMost top (total (upto t top) (c ∷ conds))
-    by_test true is some rest = at_most_trans top (total (upto t top) conds) (total (upto t top) (c ∷ conds)) (rest (omega arith)) (plus_right (upto t top c) (total (upto t top) conds) (sum_capped (upto t top) conds))
-    by_test false is some rest =
-        let here = at_most_both (upto t top c) top (least_right (value_at t.costs c) top) (both_at_least top (value_at t.costs c) top (p.above c is) (at_most_self top)) in
-        rw here (plus_left top (total (upto t top) conds) p.capped)
+some_more t top (c ∷ conds) p some = elim (cases_Bool (is_reached t c)) [
+  | inl is ↦ at_most_trans top (total (upto t top) conds) (total (upto t top) (c ∷ conds)) (some_more t top conds p (let left = rw is at some in omega (arith, left))) (plus_right (upto t top c) (total (upto t top) conds) (sum_capped (upto t top) conds))
+  | inr is ↦
+      let here = at_most_both (upto t top c) top (least_right (value_at t.costs c) top) (both_at_least top (value_at t.costs c) top (p.above c is) (at_most_self top)) in
+      rw here (plus_left top (total (upto t top) conds) p.capped)
+]
 
 reached_value : (t : Settlement) (fact : ℕ) → is_reached t fact ≡ true → value_at t.costs fact ≡ Finite (cost_at t fact)
 reached_value t fact is = finite_is (cost_at t fact) (reached_small t fact is).1
@@ -596,8 +532,8 @@ sum_same v w p [] same all = refl
 sum_same v w p (f ∷ facts) same all = let parts = both (p f) (list_all p facts) all in rw (same f parts.0, sum_same v w p facts same parts.1) refl
 
 -- no unary operator lowers what facts cost up to a bound
-closed : (unaries : List Unary) (without : List ℕ) (level : ℕ) (t : Settlement) (top : Estimate) → ((fact : ℕ) → is_left_out t fact ≡ is_among without fact) → Bounds t top → IsUnderWay unaries level [] t → IsClosed unaries without (upto t top)
-closed unaries without level t top out p way i u at stays = elim (cases_lt 0 (open_at t i).count) [
+closed : (unaries : List Unary) (without : List ℕ) (level : ℕ) (t : Settlement) (top : Estimate) → ((fact : ℕ) → is_left_out t fact ≡ is_among without fact) → Bounds t top → IsUnderWay unaries level [] t → IsClosed over_numbers unaries without (upto t top)
+closed unaries without level t top out p way i u at stays = let was = way.each i u at in elim (cases_lt 0 (open_at t i).count) [
   | inl some ↦
       let count = was.count in
       at_most_trans (upto t top u.gives) top (price (upto t top) u) (least_right (value_at t.costs u.gives) top)
@@ -610,34 +546,21 @@ closed unaries without level t top out p way i u at stays = elim (cases_lt 0 (op
       let here : IsAtMost (value_at t.costs u.gives) (Finite (open_at t i).sum) = rw value le in
       rw asks (at_most_trans (upto t top u.gives) (value_at t.costs u.gives) (Finite (open_at t i).sum) (least_left (value_at t.costs u.gives) top) here)
 ]
-  where
-    was : IsCounted t level [] i u
-    was = way.each i u at
 
 -- those that settled a fact are best
-all_best : (unaries : List Unary) (level : ℕ) (t : Settlement) (order : List ℕ) → ((place : ℕ) → is_among order place ≡ true → HasSettled unaries t place) → IsUnderWay unaries level [] t → (are_places (length unaries) order ≡ true) × AreBest unaries (value_at t.costs) (chosen unaries order)
+all_best : (unaries : List Unary) (level : ℕ) (t : Settlement) (order : List ℕ) → ((place : ℕ) → is_among order place ≡ true → HasSettled unaries t place) → IsUnderWay unaries level [] t → (are_places (length unaries) order ≡ true) × AreBest over_numbers unaries (value_at t.costs) (chosen unaries order)
 all_best unaries level t [] each way = (refl, tt)
 all_best unaries level t (i ∷ order) each way =
-    let here = each i (among i) in
-    let rest = all_best unaries level t order (λ place is. each place (later place is)) way in
+    let here = each i (rw (eq-eqb i i refl) refl) in
+    let rest = all_best unaries level t order (λ place is. each place (rw is (or-true (nat_eq place i)))) way in
     let lt : nat_lt i (length unaries) ≡ true = lt-ltb i (length unaries) (slice_get_within unaries i here.unary here.at) in
     let asks = price_sum unaries level i t (value_at t.costs) here.unary here.at (reached_value t) here.none_open way in
     let value = reached_value t here.unary.gives here.reached in
-    let best : IsBest unaries (value_at t.costs) here.unary = record { place = i; at = here.at; finite = ap is_finite value; pays = asks ∙ (ap (λ (n : ℕ). Finite n) (sym here.pays) ∙ sym value) } in
+    let best : IsBest over_numbers unaries (value_at t.costs) here.unary = record { place = i; at = here.at; finite = ap is_finite value; pays = asks ∙ (ap (λ (n : ℕ). Finite n) (sym here.pays) ∙ sym value) } in
     (rw lt rest.0, rw here.at (best, rest.1))
-  where
-    among : (i : ℕ) → is_among (i ∷ order) i ≡ true
-    among i = rw (eq-eqb i i refl) refl
-
-    later : (place : ℕ) → is_among order place ≡ true → is_among (i ∷ order) place ≡ true
-    later place is = by_test (nat_eq place i)
-      where
-        by_test : (b : Bool) → (b || is_among order place) ≡ true
-        by_test true = refl
-        by_test false = is
 
 -- what is given in order by best supporters is attained by rounds
-attained_in : (unaries : List Unary) (start without : List ℕ) (v : ℕ → Estimate) (have : List ℕ) (list : List Unary) → ((fact : ℕ) → is_among without fact ≡ true → v fact ≡ Infinite) → IsInOrder have list → AreBest unaries v list →
+attained_in : (unaries : List Unary) (start without : List ℕ) (v : ℕ → Estimate) (have : List ℕ) (list : List Unary) → ((fact : ℕ) → is_among without fact ≡ true → v fact ≡ Infinite) → IsInOrder over_numbers have list → AreBest over_numbers unaries v list →
     ((fact : ℕ) → is_among have fact ≡ true → (n : ℕ) × IsAtMost (add_round unaries start without n fact) (v fact)) → (fact : ℕ) → is_among (have ++ given_by list) fact ≡ true → (n : ℕ) × IsAtMost (add_round unaries start without n fact) (v fact)
 attained_in unaries start without v have [] outside order best so fact among = so fact (rw append-nil at among)
 attained_in unaries start without v have (u ∷ list) outside order best so fact among =
@@ -695,12 +618,10 @@ exact_where unaries start without level t top fact le a p way from = record { ro
 
 -- what isn't reached is infinite, or some unary operator waits for it
 unreached_is : (unaries : List Unary) (level : ℕ) (t : Settlement) (fact : ℕ) → is_reached t fact ≡ false → IsUnderWay unaries level [] t → (value_at t.costs fact ≡ Infinite) ⊎ ((value_at t.costs fact ≡ Finite (cost_at t fact)) × IsWanted unaries t fact)
-unreached_is unaries level t fact not_there way = by_cost (nat_le (cost_at t fact) 1000000000) refl (is_settled t fact) refl
-  where
-    by_cost : (b : Bool) → nat_le (cost_at t fact) 1000000000 ≡ b → (a : Bool) → is_settled t fact ≡ a → (value_at t.costs fact ≡ Infinite) ⊎ ((value_at t.costs fact ≡ Finite (cost_at t fact)) × IsWanted unaries t fact)
-    by_cost false large a is = inl (infinite_is (cost_at t fact) (leb-false (cost_at t fact) 1000000000 large))
-    by_cost true small true is = let k : true ≡ false = sym (rw (is, small) refl) ∙ not_there in absurd cc
-    by_cost true small false is = let le = leb-true (cost_at t fact) 1000000000 small in inr (finite_is (cost_at t fact) le, way.wanted fact is le)
+unreached_is unaries level t fact not_there way = elim (cases_lt 1000000000 (cost_at t fact)) [
+  | inl large ↦ inl (infinite_is (cost_at t fact) large)
+  | inr le ↦ let new : is_settled t fact ≡ false = grind (arith, nat_tests, not_there, le) in inr (finite_is (cost_at t fact) le, way.wanted fact new le)
+]
 
 -- A fact that is reached costs what it does by the rounds, also where others are not settled yet.
 pub reached_exact : (unaries : List Unary) (start without : List ℕ) (t : Settlement) (fact : ℕ) → is_reached t fact ≡ true → IsSettling unaries t → IsFrom unaries without start t → IsLeast (λ n. add_round unaries start without n fact) (value_at t.costs fact)
@@ -725,15 +646,14 @@ idle_infinite unaries t fact idle not_there s = elim (unreached_is unaries s.lev
 
 -- Where none waits, all facts cost what they do by the rounds.
 pub idle_exact : (unaries : List Unary) (start without : List ℕ) (t : Settlement) → IsIdle t.waiting → IsSettling unaries t → IsFrom unaries without start t → (fact : ℕ) → IsLeast (λ n. add_round unaries start without n fact) (value_at t.costs fact)
-idle_exact unaries start without t idle s from fact = exact_where unaries start without s.level t Infinite fact (at_most_infinite (value_at t.costs fact)) (attained (is_reached t fact) refl) (record {
+idle_exact unaries start without t idle s from fact = exact_where unaries start without s.level t Infinite fact (at_most_infinite (value_at t.costs fact)) (elim (cases_Bool (is_reached t fact)) [
+  | inl is ↦ reached_attained unaries start without t fact is s from
+  | inr is ↦ (0, rw (idle_infinite unaries t fact idle is s) (at_most_infinite (add_round unaries start without 0 fact)))
+]) (record {
   capped = tt;
   below = λ f is. at_most_infinite (value_at t.costs f);
   above = λ f not_there. rw (idle_infinite unaries t f idle not_there s) tt;
 }) s.way from
-  where
-    attained : (a : Bool) → is_reached t fact ≡ a → (n : ℕ) × IsAtMost (add_round unaries start without n fact) (value_at t.costs fact)
-    attained true is = reached_attained unaries start without t fact is s from
-    attained false is = (0, rw (idle_infinite unaries t fact idle is s) (at_most_infinite (add_round unaries start without 0 fact)))
 
 pub order_of : (unaries : List Unary) (start : List ℕ) (t : Settlement) → IsIdle t.waiting → IsSettling unaries t → IsFrom unaries [] start t → IsOrder unaries start (value_at t.costs) t.order
 order_of unaries start t idle s from =
@@ -742,12 +662,11 @@ order_of unaries start t idle s from =
       places = best.0;
       best = best.1;
       in_order = from.in_order;
-      given = λ fact finite. given fact finite (is_reached t fact) refl;
+      given = λ fact finite. elim (cases_Bool (is_reached t fact)) [
+        | inl is ↦ (both (is_among (start ++ given_by (chosen unaries t.order)) fact) true (sym (from_reached unaries [] start t fact from) ∙ is)).0
+        | inr is ↦ let k : false ≡ true = sym (ap is_finite (idle_infinite unaries t fact idle is s)) ∙ finite in absurd cc
+      ];
     }
-  where
-    given : (fact : ℕ) → is_finite (value_at t.costs fact) ≡ true → (b : Bool) → is_reached t fact ≡ b → is_among (start ++ given_by (chosen unaries t.order)) fact ≡ true
-    given fact finite true is = (both (is_among (start ++ given_by (chosen unaries t.order)) fact) true (sym (from_reached unaries [] start t fact from) ∙ is)).0
-    given fact finite false is = let k : false ≡ true = sym (ap is_finite (idle_infinite unaries t fact idle is s)) ∙ finite in absurd cc
 
 pub places_of : (unaries : List Unary) (t : Settlement) → IsSettling unaries t → are_places (length unaries) t.order ≡ true
 places_of unaries t s = (all_best unaries s.level t t.order s.way.settled_by s.way).0

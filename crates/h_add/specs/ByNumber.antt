@@ -6,8 +6,7 @@ use Rattle.sas_task.specs.declared.contents.Parts.{Parts}
 use Rattle.relaxed_task.specs.declared.unary.Unary.{Unary}
 use Rattle.relaxed_task.specs.Facts.{start_facts as facts_at_start}
 use Rattle.relaxed_task.specs.Numbers.{over_numbers, is_among, numbers_of, numbered_unaries}
-use Rattle.relaxed_task.specs.CostLaws.{IsClosed as IsClosedBy}
-use Rattle.relaxed_task.specs.Relaxing.{price_of, cost_in, IsCost, IsBest as IsBestOf, AreBest as AreAllBest, IsInOrder as IsInOrderOf}
+use Rattle.relaxed_task.specs.Relaxing.{price_of, cost_in, IsCost}
 
 abbrev pub start_facts : Parts → List ℕ → List ℕ
 start_facts parts state = numbers_of parts.variables (facts_at_start parts state)
@@ -24,15 +23,3 @@ add_round unaries start without n fact = cost_in over_numbers unaries start with
 
 abbrev pub IsAdd : Parts → CostKind → List ℕ → List ℕ → ℕ → Estimate → Type 0
 IsAdd parts kind state without fact value = IsCost over_numbers (numbered_unaries parts kind) (start_facts parts state) without fact value
-
-abbrev pub IsBest : List Unary → (ℕ → Estimate) → Unary → Type 0
-IsBest unaries costs u = IsBestOf over_numbers unaries costs u
-
-abbrev pub AreBest : List Unary → (ℕ → Estimate) → List Unary → Type 0
-AreBest unaries costs list = AreAllBest over_numbers unaries costs list
-
-abbrev pub IsInOrder : List ℕ → List Unary → Type 0
-IsInOrder facts list = IsInOrderOf over_numbers facts list
-
-abbrev pub IsClosed : List Unary → List ℕ → (ℕ → Estimate) → Type 0
-IsClosed unaries without v = IsClosedBy over_numbers unaries without v

@@ -1,7 +1,7 @@
 -- Laws of evaluated states, for those who build on the estimate.
-use Rattle.std.specs.Prelude.{◌≡◌, ℕ, List, length, [], ◌∷◌, ◌++◌, Bool, true, false, not, ◌&&◌, ◌||◌, ◌↔◌, nat_eq, Some, slice_get}
+use Rattle.std.specs.Prelude.{◌≡◌, ℕ, List, length, [], ◌∷◌, ◌++◌, true, not, ◌↔◌, nat_eq, Some, slice_get}
 use Rattle.std.specs.List.{list_all, list_any}
-use Rattle.std.proofs.Common.{refl, sym, ap, ◌∙◌}
+use Rattle.std.proofs.Common.{refl, sym, ap, ◌∙◌, arith}
 use Rattle.std.proofs.lemmas.Bool.{both_ways, eq-eqb, false_from_ne_true, not-false, not-true, not_from_false, not_from_true, true_from_ne_false}
 use Rattle.std.proofs.lemmas.List.Elements.{filter_map-append}
 use Rattle.std.proofs.lemmas.List.Folds.{Any-from_list_any}
@@ -63,11 +63,7 @@ value_of_goals parts kind relaxed state costs value is each sums = record {
 -- a sum is finite where no summand is infinite
 total_finite : (value : ℕ → Estimate) (facts : List ℕ) → is_finite (total value facts) ≡ not (list_any (λ fact. not (is_finite (value fact))) facts)
 total_finite value [] = refl
-total_finite value (fact ∷ facts) = finite_plus (value fact) (total value facts) ∙ (ap (λ (b : Bool). is_finite (value fact) && b) (total_finite value facts) ∙ same (is_finite (value fact)) (list_any (λ f. not (is_finite (value f))) facts))
-  where
-    same : (a b : Bool) → (a && not b) ≡ not (not a || b)
-    same true b = refl
-    same false b = refl
+total_finite value (fact ∷ facts) = grind (arith, finite_plus (value fact) (total value facts), total_finite value facts)
 
 -- the sum over the goal facts is infinite exactly where the state is dead
 pub dead_by_goals : (parts : Parts) (kind : CostKind) (relaxed : Lists) (state costs : List ℕ) (value : Estimate) → IsRelaxed parts kind relaxed → AreGoalCosts parts kind state costs → value ≡ total (value_at costs) relaxed.goals → (value ≡ Infinite) ↔ IsDead parts state

@@ -7,8 +7,8 @@ use Rattle.h_add.specs.Orders.{are_places, chosen, given_by}
 use Rattle.cost_queue.specs.Occurrences.{one_if, occurrences}
 use Rattle.cost_queue.specs.Queues.{price_of, waiting_count, IsIdle}
 use Rattle.relaxed_task.specs.declared.unary.Unary.{Unary}
-use Rattle.relaxed_task.specs.Numbers.{is_among, is_below}
-use Rattle.h_add.specs.ByNumber.{IsInOrder}
+use Rattle.relaxed_task.specs.Numbers.{is_among, is_below, over_numbers}
+use Rattle.relaxed_task.specs.Relaxing.{IsInOrder}
 use Rattle.h_add.specs.Networks.{open_at_start}
 
 -- For each fact what it costs so far and whether that is settled; for each unary operator what it has open, and the price
@@ -149,7 +149,7 @@ pub record IsFrom (unaries : List Unary) (without had : List ℕ) (t : Settlemen
   pub out : (fact : ℕ) → is_left_out t fact ≡ is_among without fact
   pub settled : (fact : ℕ) → is_settled t fact ≡ (is_among without fact || is_among (had ++ given_by (chosen unaries t.order)) fact)
   pub first : (fact : ℕ) → is_among had fact ≡ true → is_among without fact ≡ false → cost_at t fact ≡ 0
-  pub in_order : IsInOrder had (chosen unaries t.order)
+  pub in_order : IsInOrder over_numbers had (chosen unaries t.order)
 
 -- some unary operators counted a fact
 pub record HasCounted (old new : Settlement) : Type 0 where
