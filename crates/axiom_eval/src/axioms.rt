@@ -14,7 +14,7 @@ use std::marker::Model;
 /// What it takes to settle the derived variables of one task's states.
 ///
 /// The task is given again at each call; it is the one for which the value was made.
-#[derive(Debug, Drop)]
+#[derive(Drop)]
 pub struct Axioms {
     derived: Seq<Derived>,
     rules: Rules,

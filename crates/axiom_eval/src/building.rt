@@ -35,7 +35,7 @@ pub fn derived_of(alloc: Global, parts: &Parts) -> Result<Vec<Derived>, AllocErr
 }
 
 /// A rule by its number, with its layer.
-#[derive(Clone, Copy, Debug)]
+#[derive(Clone, Copy)]
 pub struct Slot {
     pub layer: u32,
     pub rule: u32,

@@ -7,7 +7,7 @@ use std::alloc::{AllocError, Global};
 use test_tasks::{fact, giving, variable};
 
 /// What operators cost: from the least to the greatest, scattered by their numbers.
-#[derive(Clone, Copy, Debug)]
+#[derive(Clone, Copy)]
 pub struct Costs {
     pub least: u32,
     pub greatest: u32,

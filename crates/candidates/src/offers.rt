@@ -2,7 +2,7 @@
 use plan_check::PlanFault;
 
 /// A plan that an entry offered in a round.
-#[derive(Clone, Copy, Debug, PartialEq, Eq)]
+#[derive(Clone, Copy, PartialEq, Eq)]
 pub struct Candidate {
     /// The number of the round, from 1.
     pub round: u32,
@@ -15,7 +15,7 @@ pub struct Candidate {
 }
 
 /// What became of a candidate: its place among the kept plans, from 0, or why it was dropped.
-#[derive(Clone, Copy, Debug, PartialEq, Eq)]
+#[derive(Clone, Copy, PartialEq, Eq)]
 pub enum Found {
     Kept { index: u32 },
     Dropped(PlanFault),

@@ -9,7 +9,7 @@ use lama_num::Seq;
 use std::alloc::Global;
 
 /// What a read of a whole file gave.
-#[derive(Debug, Drop)]
+#[derive(Drop)]
 pub enum Whole {
     Missing,
     Bytes(Seq<u8>),
@@ -17,14 +17,14 @@ pub enum Whole {
 }
 
 /// Why a file wasn't read: a call of the folder failed, or memory was wanting.
-#[derive(Clone, Copy, Debug, PartialEq, Eq)]
+#[derive(Clone, Copy, PartialEq, Eq)]
 pub enum ReadError {
     Failed,
     NoMemory,
 }
 
 /// What one turn of reading found.
-#[derive(Clone, Copy, Debug, PartialEq, Eq)]
+#[derive(Clone, Copy, PartialEq, Eq)]
 enum Turn {
     Missing,
     End,

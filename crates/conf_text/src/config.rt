@@ -21,7 +21,7 @@ pub const MOST_POPS: u64 = 1_099_511_627_776;
 pub const MOST_STATES: u64 = 2_147_483_647;
 
 /// An evaluator that guides a search.
-#[derive(Clone, Copy, Debug, PartialEq, Eq)]
+#[derive(Clone, Copy, PartialEq, Eq)]
 pub enum GuideKind {
     /// The additive estimate.
     Add,
@@ -32,7 +32,7 @@ pub enum GuideKind {
 }
 
 /// One search: its guides, which of them prefer operators, and how it counts, stops and goes on.
-#[derive(Debug, Drop)]
+#[derive(Drop)]
 pub struct Phase {
     pub guides: Seq<GuideKind>,
     pub preferred: Seq<GuideKind>,
@@ -51,7 +51,7 @@ pub struct Phase {
 }
 
 /// One phase, or several, one after another.
-#[derive(Debug, Drop)]
+#[derive(Drop)]
 pub struct Config {
     pub iterated: bool,
     pub phases: Seq<Phase>,

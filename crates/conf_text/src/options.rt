@@ -23,7 +23,7 @@ use std::alloc::Global;
 const TURNS: u64 = 9;
 
 /// An option by its name.
-#[derive(Clone, Copy, Debug)]
+#[derive(Clone, Copy)]
 pub enum OptionName {
     Preferred,
     CostType,
@@ -36,7 +36,7 @@ pub enum OptionName {
 }
 
 /// The options that a phase gives.
-#[derive(Debug, Drop)]
+#[derive(Drop)]
 pub struct Options {
     pub preferred: Option<Seq<GuideKind>>,
     pub cost: Option<CostKind>,

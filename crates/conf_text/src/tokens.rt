@@ -30,7 +30,7 @@ impl<'a> Model for Cursor<'a> {
 }
 
 /// A word, or one other byte; at the end of the text it has no byte.
-#[derive(Clone, Copy, Debug)]
+#[derive(Clone, Copy)]
 pub struct Token<'a> {
     pub place: u64,
     pub text: &'a [u8],

@@ -18,7 +18,7 @@ use std::marker::Model;
 const MOST_PLANS: u32 = 9999;
 
 /// The event core of a run. It stores no events: it stands for a list of them.
-#[derive(Debug, Drop)]
+#[derive(Drop)]
 pub struct Core {
     setting: Setting,
     round: u32,

@@ -2,7 +2,7 @@ use exit_codes::Part;
 
 /// What a driver tells its core. Rounds and entries are numbered from 1. An entry has a turn in
 /// each round in which it runs, and the turns of one round may be on at the same time.
-#[derive(Clone, Copy, Debug, PartialEq, Eq)]
+#[derive(Clone, Copy, PartialEq, Eq)]
 pub enum Event {
     /// A turn begins, at a moment in milliseconds.
     Began {
@@ -31,7 +31,7 @@ pub enum Event {
 }
 
 /// What the driver does then.
-#[derive(Clone, Copy, Debug, PartialEq, Eq)]
+#[derive(Clone, Copy, PartialEq, Eq)]
 pub enum Action {
     Go,
     /// Keep the candidate. `index` is its place among the kept ones, from 0.

@@ -1,7 +1,7 @@
 use lama_num::Seq;
 
 /// What a run is set to. Times are in milliseconds.
-#[derive(Debug, Drop)]
+#[derive(Drop)]
 pub struct Setting {
     /// The relative time of each entry; the first is that of entry 1.
     pub shares: Seq<u32>,

@@ -13,14 +13,14 @@ use portfolio_text::AliasName;
 use std::alloc::Global;
 
 /// A configuration, or one that is built in, which depends on the task.
-#[derive(Debug, Drop)]
+#[derive(Drop)]
 pub enum Chosen {
     Alias(AliasName),
     Search(Config),
 }
 
 /// What a run searches by, and what a plan must cost less than.
-#[derive(Debug, Drop)]
+#[derive(Drop)]
 pub struct Aim {
     pub chosen: Chosen,
     pub bound: Option<u64>,

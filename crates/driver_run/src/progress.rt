@@ -20,7 +20,7 @@ pub const ROUND: u32 = 1;
 pub const ENTRY: u32 = 1;
 
 /// What a run keeps: the core, the plans, all candidates for them, and the ends of its turns.
-#[derive(Debug, Drop)]
+#[derive(Drop)]
 pub struct Progress {
     pub core: Core,
     pub kept: Vec<Kept>,
@@ -29,7 +29,7 @@ pub struct Progress {
 }
 
 /// Why a run stops before its end: a call of the folder failed, or memory was wanting.
-#[derive(Clone, Copy, Debug, PartialEq, Eq)]
+#[derive(Clone, Copy, PartialEq, Eq)]
 pub enum Stop {
     Fault,
     NoMemory,
@@ -37,7 +37,7 @@ pub enum Stop {
 
 /// What the search of a turn has done: when the turn began, how many phases were begun, how many
 /// pops their logs have, and what came of those behind which another may follow.
-#[derive(Debug, Drop)]
+#[derive(Drop)]
 pub struct Trail {
     pub began: u64,
     pub phases: u32,

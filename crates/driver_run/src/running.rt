@@ -46,7 +46,7 @@ use std::alloc::Global;
 const MOST_PLANS: usize = 9999;
 
 /// What a run kept, and why it ended.
-#[derive(Debug, Drop)]
+#[derive(Drop)]
 pub struct Left {
     pub kept: Seq<Kept>,
     pub candidates: Seq<Candidate>,

@@ -22,7 +22,7 @@ const TOO_LONG: SasFault = SasFault::TooLarge {
 };
 
 /// What became of reading the task's file.
-#[derive(Debug, Drop)]
+#[derive(Drop)]
 pub enum TaskFile {
     Task(Task),
     Missing,

@@ -94,7 +94,7 @@ fn is_own_name(name: &[u8]) -> bool
 }
 
 /// What a line asks the search for.
-#[derive(Clone, Copy, Debug)]
+#[derive(Clone, Copy)]
 pub enum Work<'a> {
     /// A configuration that is built in.
     Alias(AliasName),
@@ -103,7 +103,7 @@ pub enum Work<'a> {
 }
 
 /// What the words of a line ask for.
-#[derive(Clone, Copy, Debug)]
+#[derive(Clone, Copy)]
 pub struct Line<'a> {
     pub work: Work<'a>,
     /// What a plan must cost less than.

@@ -6,7 +6,7 @@ ghost use Rattle.exit_codes.specs.Parts.{norm_of, planned, status_codes};
 use crate::sets::Codes;
 
 /// How a part of a run ended: an entry of the driver, or the run as a whole.
-#[derive(Clone, Copy, Debug, PartialEq, Eq)]
+#[derive(Clone, Copy, PartialEq, Eq)]
 pub enum Part {
     /// A search of this process proved that no plan exists.
     Unsolvable,

@@ -8,7 +8,7 @@ use std::marker::Model;
 const COUNT: usize = 64;
 
 /// A set of exit codes, seen as a finite set of numbers. It takes no memory.
-#[derive(Clone, Copy, Debug)]
+#[derive(Clone, Copy)]
 pub struct Codes {
     flags: [bool; COUNT],
 }

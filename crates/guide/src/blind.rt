@@ -8,7 +8,7 @@ use sas_task::Task;
 use std::alloc::Global;
 
 /// A guide whose one estimate is 0 everywhere: no state is dead, and it prefers no operator.
-#[derive(Clone, Copy, Debug)]
+#[derive(Clone, Copy)]
 pub struct Blind;
 
 impl Guide for Blind {

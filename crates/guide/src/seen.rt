@@ -7,7 +7,7 @@ use std::alloc::Global;
 /// What a guide says of a state.
 ///
 /// A search makes one and hands it to each visit, which fills it anew.
-#[derive(Debug, Drop)]
+#[derive(Drop)]
 pub struct Seen {
     /// The relaxation shows that no operators lead from the state to a goal.
     pub dead: bool,

@@ -3,7 +3,7 @@ ghost use Rattle.std.specs.Prelude.{◌≡◌, ◌+◌, ◌<◌, ◌&&◌, nat_e
 ghost use Rattle.host_mem.specs.Calls.{kind_of, called, raised, is_for, fault_of};
 
 /// A call of a host, by its kind.
-#[derive(Clone, Copy, Debug, PartialEq, Eq)]
+#[derive(Clone, Copy, PartialEq, Eq)]
 pub enum HostCall {
     ReadSome,
     Create,
@@ -17,7 +17,7 @@ pub enum HostCall {
 /// The numbered call of a kind fails, before or after its effect.
 ///
 /// Numbers count from 1 for each kind of call. Of several entries for one call the first counts.
-#[derive(Clone, Copy, Debug, PartialEq, Eq)]
+#[derive(Clone, Copy, PartialEq, Eq)]
 pub struct Fail {
     pub call: HostCall,
     pub number: u32,

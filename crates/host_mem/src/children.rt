@@ -10,14 +10,14 @@ use std::alloc::{AllocError, Global};
 
 /// What a child does: its writes, each the new bytes of a name or None to take the name away, and
 /// how it ends.
-#[derive(Debug, Drop)]
+#[derive(Drop)]
 pub struct Script {
     pub writes: Seq<(Seq<u8>, Option<Seq<u8>>)>,
     pub outcome: ChildEnd,
 }
 
 /// A successful start: the words, the program first, the bytes of standard input, and the limits.
-#[derive(Debug, Drop)]
+#[derive(Drop)]
 pub struct Start {
     pub words: Seq<Seq<u8>>,
     pub input: Seq<u8>,
@@ -25,7 +25,7 @@ pub struct Start {
 }
 
 /// A child that runs.
-#[derive(Debug, Drop)]
+#[derive(Drop)]
 pub struct Running {
     pub slot: u32,
     pub script: Script,

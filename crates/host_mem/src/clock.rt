@@ -10,7 +10,7 @@ use std::marker::Model;
 ///
 /// It gives the greatest of those that it came to, and repeats it at the end of the list; with an
 /// empty list it gives 0. It tells its answers until it was asked `u64::MAX` times.
-#[derive(Debug, Drop)]
+#[derive(Drop)]
 pub struct MemClock {
     times: Vec<u64>,
     asked: u64,

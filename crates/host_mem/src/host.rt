@@ -36,7 +36,7 @@ use std::marker::Model;
 /// The n-th start that succeeds takes the n-th script; its writes are made at its wait. Past the
 /// last script a child writes nothing and ends with status 127. A start that fails has no effect. A
 /// wait that fails frees the slot; where it fails before its effect the writes are never made.
-#[derive(Debug, Drop)]
+#[derive(Drop)]
 pub struct MemHost {
     alloc: Global,
     files: Vec<(Seq<u8>, Seq<u8>)>,

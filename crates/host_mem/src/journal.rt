@@ -12,7 +12,7 @@ use lama_host::ChildEnd;
 use lama_num::Seq;
 
 /// A change: of files, or a child that began or ended.
-#[derive(Debug, Drop)]
+#[derive(Drop)]
 pub enum Change {
     /// A name holds no bytes.
     Made(Seq<u8>),

@@ -13,7 +13,7 @@ use std::marker::Model;
 /// A sink that keeps what it takes, up to so many bytes.
 ///
 /// A put that would pass them fails, and takes nothing.
-#[derive(Debug, Drop)]
+#[derive(Drop)]
 pub struct MemSink {
     bytes: Vec<u8>,
     most: Option<u64>,

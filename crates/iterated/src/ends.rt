@@ -9,7 +9,7 @@ use phase_ends::{Ending, Searched};
 use search_log::{LimitHit, Log, Space};
 
 /// The end of a phase, with its log.
-#[derive(Debug, Drop)]
+#[derive(Drop)]
 pub enum PhaseEnd {
     /// A plan below the bound, and what it really costs.
     Plan { ops: Seq<u32>, cost: u64, log: Log },

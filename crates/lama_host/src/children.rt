@@ -5,14 +5,14 @@ ghost use Rattle.lama_host.specs.Host.{Starts, Waits};
 use crate::files::{Failed, Folder};
 
 /// How a child ended: with a status, or by a signal.
-#[derive(Clone, Copy, Debug, PartialEq, Eq)]
+#[derive(Clone, Copy, PartialEq, Eq)]
 pub enum ChildEnd {
     Status(u8),
     Signal,
 }
 
 /// What a child may use: seconds of processor time, and KiB of memory. None is no limit.
-#[derive(Clone, Copy, Debug, PartialEq, Eq)]
+#[derive(Clone, Copy, PartialEq, Eq)]
 pub struct Limits {
     pub seconds: Option<u32>,
     pub kib: Option<u32>,

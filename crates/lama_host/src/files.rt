@@ -6,11 +6,11 @@ ghost use Rattle.lama_host.specs.Folder.{Once, Appends, renamed};
 ghost use Rattle.lama_host.specs.Pieces.{Reads, Fits};
 
 /// A call of the outside failed. It comes only where the count of faults rose.
-#[derive(Clone, Copy, Debug, PartialEq, Eq)]
+#[derive(Clone, Copy, PartialEq, Eq)]
 pub struct Failed;
 
 /// What a read found: no such file, or so many bytes in front of the buffer.
-#[derive(Clone, Copy, Debug, PartialEq, Eq)]
+#[derive(Clone, Copy, PartialEq, Eq)]
 pub enum Piece {
     Missing,
     Bytes(usize),

@@ -6,7 +6,7 @@ ghost use Rattle.lama_num.specs.Estimates.{estimate_sum};
 pub const LARGEST_ESTIMATE: u32 = 1_000_000_000;
 
 /// An estimate of the cost to a goal, in units of operator cost.
-#[derive(Clone, Copy, Debug, PartialEq, Eq)]
+#[derive(Clone, Copy, PartialEq, Eq)]
 pub enum Estimate {
     Finite(u32),
     /// The goal can't be reached.

@@ -13,7 +13,7 @@ use std::slice::Iter;
 ///
 /// It is made from a `Vec` and gives it back without taking memory, so that the lists of public
 /// types can be compared with what definitions say, however deep they lie.
-#[derive(Debug, Drop)]
+#[derive(Drop)]
 pub struct Seq<T> {
     items: Vec<T>,
 }

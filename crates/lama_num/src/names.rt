@@ -13,7 +13,7 @@ use std::marker::Model;
 ///
 /// The files of a base are the base itself, `base.part`, `base.1`, `base.2` and so on, and for the
 /// child of the E-th entry of a portfolio `base.cE`, `base.cE.1` and so on.
-#[derive(Debug, Drop)]
+#[derive(Drop)]
 pub struct NameBuf {
     text: ArrayString<256>,
 }

@@ -8,7 +8,7 @@ use std::alloc::Global;
 use std::marker::Model;
 
 /// Where a row begins in the vector, and where it ends.
-#[derive(Clone, Copy, Debug)]
+#[derive(Clone, Copy)]
 pub struct Span {
     pub start: u32,
     pub end: u32,
@@ -17,7 +17,7 @@ pub struct Span {
 /// Lists, one after the other in one vector. Contracts see the list of them.
 ///
 /// It holds fewer than 2^32 items: a push of more answers that memory is wanting.
-#[derive(Debug, Drop)]
+#[derive(Drop)]
 pub struct Rows<T> {
     items: Vec<T>,
     spans: Vec<Span>,

@@ -3,7 +3,7 @@ use lama_num::Seq;
 use search_log::{LimitHit, Log, Space};
 
 /// The end of a search, with its log.
-#[derive(Debug, Drop)]
+#[derive(Drop)]
 pub enum SearchEnd {
     /// A plan, and what it really costs.
     Plan { ops: Seq<u32>, cost: u64, log: Log },

@@ -26,7 +26,7 @@ pub(crate) struct Machine {
 
 /// An entry that was taken, and where it goes on from: the number of the parent's state, the number
 /// of that state's latest visit, and what it costs to go on from there.
-#[derive(Clone, Copy, Debug)]
+#[derive(Clone, Copy)]
 pub(crate) struct Reached {
     pub popped: Popped,
     pub parent: u32,
@@ -37,7 +37,7 @@ pub(crate) struct Reached {
 
 /// What to do with the state that an entry leads to: nothing, nothing for want of room, or to visit
 /// it under this number, for the first time or again.
-#[derive(Clone, Copy, Debug, PartialEq, Eq)]
+#[derive(Clone, Copy, PartialEq, Eq)]
 pub(crate) enum Decision {
     Known,
     Full,
@@ -47,7 +47,7 @@ pub(crate) enum Decision {
 
 /// How a turn went: all lists were empty, the search goes on, a goal was visited, or there was no
 /// room for a state.
-#[derive(Clone, Copy, Debug, PartialEq, Eq)]
+#[derive(Clone, Copy, PartialEq, Eq)]
 pub(crate) enum Turned {
     Empty,
     Done,

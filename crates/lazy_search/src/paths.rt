@@ -7,7 +7,7 @@ use std::alloc::Global;
 
 /// From which visit a visit came, by which operator. The first visit has none: its origin is never
 /// read.
-#[derive(Clone, Copy, Debug)]
+#[derive(Clone, Copy)]
 pub(crate) struct Came {
     pub origin: u32,
     pub op: u32,

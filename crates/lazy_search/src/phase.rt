@@ -29,7 +29,7 @@ use std::alloc::Global;
 use std::mem::replace;
 
 /// Why a search halts.
-#[derive(Clone, Copy, Debug, PartialEq, Eq)]
+#[derive(Clone, Copy, PartialEq, Eq)]
 pub(crate) enum Halt {
     AtGoal,
     Exhausted,
@@ -203,7 +203,7 @@ fn plan_of(
 }
 
 /// What a machine that halts has found.
-#[derive(Debug, Drop)]
+#[derive(Drop)]
 pub(crate) enum Found {
     Plan { ops: Seq<u32>, cost: u64 },
     Space(Space),

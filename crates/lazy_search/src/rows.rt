@@ -7,7 +7,7 @@ use lama_num::NoMemory;
 use search_log::Setting;
 
 /// What stands for a state: its latest visit.
-#[derive(Clone, Copy, Debug)]
+#[derive(Clone, Copy)]
 pub(crate) struct Row {
     /// What it cost to reach by the kind of cost.
     pub g: u64,

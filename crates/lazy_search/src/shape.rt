@@ -7,7 +7,7 @@ use lama_num::NoMemory;
 use std::alloc::Global;
 
 /// How many guides there are, and whether some of them prefer operators.
-#[derive(Clone, Copy, Debug)]
+#[derive(Clone, Copy)]
 pub(crate) struct Shape {
     pub guides: u32,
     pub preferring: bool,

@@ -20,7 +20,7 @@ use std::alloc::Global;
 
 /// A visit that is to be kept: its state, what it cost to reach it, how it came about, and whether
 /// it is a goal.
-#[derive(Clone, Copy, Debug)]
+#[derive(Clone, Copy)]
 pub(crate) struct Arrival {
     pub id: u32,
     pub g: u64,

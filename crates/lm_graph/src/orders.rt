@@ -7,7 +7,7 @@ ghost use Rattle.lm_graph.specs.Orders.{strength_of, stronger as the_stronger, i
 /// A greedy-necessary order says that a node holds directly before another first does, a natural
 /// order that it holds at some time before, and a reasonable order that nothing is lost by reaching
 /// it first.
-#[derive(Clone, Copy, Debug, PartialEq, Eq)]
+#[derive(Clone, Copy, PartialEq, Eq)]
 pub enum Order {
     Reasonable,
     Natural,
@@ -15,7 +15,7 @@ pub enum Order {
 }
 
 /// An order of one node, with the other node: the one that it comes from, or leads to.
-#[derive(Clone, Copy, Debug, PartialEq, Eq)]
+#[derive(Clone, Copy, PartialEq, Eq)]
 pub struct Edge {
     pub node: u32,
     pub kind: Order,

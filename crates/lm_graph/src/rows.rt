@@ -8,7 +8,7 @@ use std::alloc::{AllocError, Global};
 use std::marker::Model;
 
 /// The orders that lead to one node, or from it, ascending by the other node.
-#[derive(Debug, Drop)]
+#[derive(Drop)]
 pub struct Row {
     edges: Vec<Edge>,
 }

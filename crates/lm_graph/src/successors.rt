@@ -16,7 +16,7 @@ use std::alloc::{AllocError, Global};
 use std::marker::Model;
 
 /// The orders of a graph by the node that each comes from.
-#[derive(Debug, Drop)]
+#[derive(Drop)]
 pub struct Successors {
     rows: Vec<Row>,
 }

@@ -12,7 +12,7 @@ use std::marker::Model;
 
 /// The operators stand in one row, and beside them runs, each of which says how many of them belong
 /// to one visit: 4 bytes an entry, and 16 for each visit.
-#[derive(Debug, Drop)]
+#[derive(Drop)]
 pub struct Queue {
     runs: VecDeque<Run>,
     operators: VecDeque<u32>,

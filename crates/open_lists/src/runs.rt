@@ -6,7 +6,7 @@ ghost use Rattle.open_lists.specs.Runs.{parent_of, less_one};
 use std::collections::VecDeque;
 
 /// So many operators of one visit.
-#[derive(Clone, Copy, Debug, PartialEq, Eq)]
+#[derive(Clone, Copy, PartialEq, Eq)]
 pub struct Run {
     pub(crate) parent: u64,
     pub(crate) count: u64,

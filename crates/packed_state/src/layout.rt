@@ -12,7 +12,7 @@ use std::marker::Model;
 ///
 /// A state is a slice with one value for each variable, below its range. Two states have equal
 /// words exactly where they are equal. Only `new` takes memory.
-#[derive(Debug, Drop)]
+#[derive(Drop)]
 pub struct Layout {
     words: usize,
     fields: Vec<Field>,

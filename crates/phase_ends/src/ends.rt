@@ -9,7 +9,7 @@ use conf_text::{Config, Phase};
 use sas_task::CostKind;
 
 /// What a call for the next phase begins with.
-#[derive(Clone, Copy, Debug, PartialEq, Eq)]
+#[derive(Clone, Copy, PartialEq, Eq)]
 pub enum Begun {
     /// No phase is left.
     Over,
@@ -20,7 +20,7 @@ pub enum Begun {
 }
 
 /// How the search of a phase ends.
-#[derive(Clone, Copy, Debug, PartialEq, Eq)]
+#[derive(Clone, Copy, PartialEq, Eq)]
 pub enum Searched {
     /// It found a plan.
     Found,
@@ -33,7 +33,7 @@ pub enum Searched {
 }
 
 /// How a phase ends.
-#[derive(Clone, Copy, Debug, PartialEq, Eq)]
+#[derive(Clone, Copy, PartialEq, Eq)]
 pub enum Ending {
     Plan,
     /// No plan exists.

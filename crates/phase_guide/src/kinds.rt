@@ -9,7 +9,7 @@ use sas_task::CostKind;
 use std::alloc::{AllocError, Global};
 
 /// The estimates of a state that isn't dead.
-#[derive(Clone, Copy, Debug)]
+#[derive(Clone, Copy)]
 pub(crate) struct Values {
     pub add: u32,
     pub ff: u32,

@@ -21,7 +21,7 @@ use lama_num::Estimate;
 use sas_task::Task;
 
 /// The additive estimate and that of FF, of a state that isn't dead; 0 where it isn't asked for.
-#[derive(Clone, Copy, Debug)]
+#[derive(Clone, Copy)]
 pub(crate) struct RelaxedCosts {
     pub add: u32,
     pub ff: u32,

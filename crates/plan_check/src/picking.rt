@@ -13,7 +13,7 @@ use crate::setup::Setup;
 use crate::walker::Walker;
 
 /// What the pairs are whose states are goals.
-#[derive(Clone, Copy, Debug)]
+#[derive(Clone, Copy)]
 pub struct Goals {
     /// Their least cost.
     pub least: Option<u64>,

@@ -7,7 +7,7 @@ use crate::verdicts::PlanFault;
 use lama_num::NoMemory;
 use std::alloc::{AllocError, AllocFailed};
 
-#[derive(Clone, Copy, Debug)]
+#[derive(Clone, Copy)]
 pub enum Refusal {
     Bad(PlanFault),
     NoMemory,

@@ -6,7 +6,7 @@ use std::alloc::{AllocError, Global};
 
 /// The last operator of a choice, and where the link of the one before it lies. For a first
 /// operator the place isn't used.
-#[derive(Clone, Copy, Debug, PartialEq, Eq)]
+#[derive(Clone, Copy, PartialEq, Eq)]
 pub struct Link {
     pub from: u32,
     pub op: u32,

@@ -3,7 +3,7 @@ use lama_num::Seq;
 use plan_text::PlanTextFault;
 
 /// Why a file isn't a plan, or not a wanted one. Steps count from 1.
-#[derive(Clone, Copy, Debug, PartialEq, Eq)]
+#[derive(Clone, Copy, PartialEq, Eq)]
 pub enum PlanFault {
     /// The bytes aren't the text of a plan.
     Text(PlanTextFault),
@@ -25,7 +25,7 @@ pub enum PlanFault {
 }
 
 /// The verdict on a plan file.
-#[derive(Debug, Drop)]
+#[derive(Drop)]
 pub enum Verdict {
     /// It is a plan, of these operators and this cost.
     Good { ops: Seq<u32>, cost: u64 },

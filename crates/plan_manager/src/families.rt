@@ -5,7 +5,7 @@ ghost use Rattle.plan_manager.specs.Family.{family_name, file_name};
 use lama_num::NameBuf;
 
 /// A file of a family: the base itself, or `base.n`.
-#[derive(Debug, Drop)]
+#[derive(Drop)]
 pub enum FamilyFile<'a> {
     Base(&'a NameBuf),
     Numbered(NameBuf),

@@ -20,7 +20,7 @@ const MOST_BYTES: usize = 67_108_864;
 
 /// What the lines of a plan file tell: the names of the steps, the cost, and whether every operator
 /// is said to cost 1.
-#[derive(Debug, Drop)]
+#[derive(Drop)]
 pub struct PlanLines {
     pub names: Seq<Seq<u8>>,
     pub cost: u64,

@@ -3,7 +3,7 @@ ghost use Rattle.std.specs.Prelude.{◌≡◌};
 ghost use Rattle.portfolio_text.specs.AliasNames.{alias_of, alias_text};
 
 /// A configuration that is built in, by its name.
-#[derive(Clone, Copy, Debug, PartialEq, Eq)]
+#[derive(Clone, Copy, PartialEq, Eq)]
 pub enum AliasName {
     /// `lama`: plan after plan, each cheaper than the last.
     Lama,

@@ -14,7 +14,7 @@ pub const MOST_ENTRIES: usize = 1000;
 pub const HIGHEST_SHARE: u64 = 1_000_000;
 
 /// What an entry does.
-#[derive(Debug, Drop)]
+#[derive(Drop)]
 pub enum Work {
     /// A search of the planner's own.
     Search(Config),
@@ -25,14 +25,14 @@ pub enum Work {
 }
 
 /// One entry: its share of the time, beside those of the others, and its work.
-#[derive(Debug, Drop)]
+#[derive(Drop)]
 pub struct PortEntry {
     pub share: u32,
     pub work: Work,
 }
 
 /// Entries, one after another.
-#[derive(Debug, Drop)]
+#[derive(Drop)]
 pub struct Portfolio {
     pub entries: Seq<PortEntry>,
 }

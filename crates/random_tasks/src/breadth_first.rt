@@ -8,7 +8,7 @@ use std::alloc::Global;
 const MANY: usize = 100;
 
 /// A state that was reached, and the operators on the way to it.
-#[derive(Debug, Drop)]
+#[derive(Drop)]
 pub struct Found {
     pub state: Vec<u32>,
     pub ops: Vec<u32>,

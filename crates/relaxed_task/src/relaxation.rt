@@ -14,7 +14,7 @@ use sas_task::Fact;
 use std::marker::Model;
 
 /// The lists of a relaxation.
-#[derive(Debug, Drop)]
+#[derive(Drop)]
 pub struct Lists {
     /// Where the facts of each variable begin.
     pub offsets: Seq<u32>,
@@ -31,7 +31,7 @@ pub struct Lists {
 ///
 /// The facts of the first variable have the first numbers, in the order of its values, then come
 /// those of the second, and so on.
-#[derive(Debug, Drop)]
+#[derive(Drop)]
 pub struct Relaxed {
     lists: Lists,
 }

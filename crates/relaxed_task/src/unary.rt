@@ -2,7 +2,7 @@ use lama_num::Seq;
 
 /// One effect of an operator, or a rule, without what it deletes: where all of `conds` are reached,
 /// `gives` is. Facts are numbers.
-#[derive(Debug, Drop)]
+#[derive(Drop)]
 pub struct Unary {
     /// The operator's number; a rule has none.
     pub op: Option<u32>,

@@ -7,7 +7,7 @@ use sas_task::{Kept, Task};
 use search_log::{LimitHit, Log, Space};
 
 /// How a run ended: with a report, or for want of memory after the words were accepted.
-#[derive(Debug, Drop)]
+#[derive(Drop)]
 pub enum Ended {
     Done(Report),
     NoMemory,
@@ -16,7 +16,7 @@ pub enum Ended {
 /// What a run did: the task where it was read, whether its plans are numbered, the plans that it
 /// kept and all candidates for them, how its entries ended, when and why it began and ended, and
 /// the exit code.
-#[derive(Debug, Drop)]
+#[derive(Drop)]
 pub struct Report {
     pub task: Option<Task>,
     pub many: bool,
@@ -33,7 +33,7 @@ pub struct Report {
 /// clock's answer, in milliseconds, as it began; how many phases were begun, and how many pops
 /// their logs have; what the phases came to that another followed or could follow; and how it
 /// ended.
-#[derive(Debug, Drop)]
+#[derive(Drop)]
 pub struct EntryEnd {
     pub round: u32,
     pub entry: u32,
@@ -45,7 +45,7 @@ pub struct EntryEnd {
 }
 
 /// What a phase came to, where the entry didn't end with it.
-#[derive(Debug, Drop)]
+#[derive(Drop)]
 pub enum Past {
     /// A plan, which is kept at this place, from 0.
     Plan { index: u32, log: Log },
@@ -54,7 +54,7 @@ pub enum Past {
 }
 
 /// How an entry ended.
-#[derive(Debug, Drop)]
+#[derive(Drop)]
 pub enum Outcome {
     /// No plan is cheaper than the bound.
     Best { space: Space, bound: u64, log: Log },
@@ -71,7 +71,7 @@ pub enum Outcome {
 }
 
 /// Why a run ended.
-#[derive(Clone, Copy, Debug, PartialEq, Eq)]
+#[derive(Clone, Copy, PartialEq, Eq)]
 pub enum Why {
     /// All is done that was asked for.
     Finished,
@@ -86,7 +86,7 @@ pub enum Why {
 }
 
 /// What is wrong with the words.
-#[derive(Clone, Copy, Debug, PartialEq, Eq)]
+#[derive(Clone, Copy, PartialEq, Eq)]
 pub enum WordsFault {
     /// They aren't a line of the command.
     Refused,
@@ -99,13 +99,13 @@ pub enum WordsFault {
 }
 
 /// An option with a value that may be refused.
-#[derive(Clone, Copy, Debug, PartialEq, Eq)]
+#[derive(Clone, Copy, PartialEq, Eq)]
 pub enum Opt {
     Bound,
 }
 
 /// A file that the words name.
-#[derive(Clone, Copy, Debug, PartialEq, Eq)]
+#[derive(Clone, Copy, PartialEq, Eq)]
 pub enum Input {
     Task,
 }

@@ -14,7 +14,7 @@ use clap::ArgMatches;
 use std::alloc::Global;
 
 /// What a line gives, as it is written.
-#[derive(Clone, Copy, Debug)]
+#[derive(Clone, Copy)]
 pub struct Given<'a> {
     pub alias: Option<&'a str>,
     pub search: Option<&'a str>,

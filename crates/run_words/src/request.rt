@@ -3,7 +3,7 @@ use lama_num::NameBuf;
 use portfolio_text::{AliasName, Text};
 
 /// What the words of a command line ask for.
-#[derive(Debug, Drop)]
+#[derive(Drop)]
 pub struct Request {
     /// The name of the task's file; there is none exactly where a task is to be made.
     pub task: Option<Text>,
@@ -25,7 +25,7 @@ pub struct Request {
 /// The work of a run: a configuration by its name or its text, or the portfolio in a file.
 ///
 /// Nothing is said of the text of a configuration, nor of the file.
-#[derive(Debug, Drop)]
+#[derive(Drop)]
 pub enum Chosen {
     Alias(AliasName),
     Search(Text),

@@ -19,7 +19,7 @@ use crate::names::is_file_name;
 use lama_num::{NameBuf, read_decimal};
 
 /// The values of a line, once they are read.
-#[derive(Debug, Drop)]
+#[derive(Drop)]
 pub struct Values {
     pub base: NameBuf,
     pub bound: Option<u64>,

@@ -2,14 +2,14 @@
 use lama_num::Seq;
 
 /// A variable, by its number from 0, has a value, by its number from 0.
-#[derive(Clone, Copy, Debug, PartialEq, Eq, PartialOrd, Ord, Hash)]
+#[derive(Clone, Copy, PartialEq, Eq, PartialOrd, Ord, Hash)]
 pub struct Fact {
     pub var: u32,
     pub val: u32,
 }
 
 /// A variable with the names of its values. It is derived where it has a layer: rules set it then.
-#[derive(Debug, Drop)]
+#[derive(Drop)]
 pub struct Variable {
     pub name: Seq<u8>,
     pub layer: Option<u32>,
@@ -17,7 +17,7 @@ pub struct Variable {
 }
 
 /// A fact that an operator gives where the conditions hold before it.
-#[derive(Debug, Drop)]
+#[derive(Drop)]
 pub struct Effect {
     pub conds: Seq<Fact>,
     pub fact: Fact,
@@ -28,7 +28,7 @@ pub struct Effect {
 /// In a task `pre` has the prevail conditions first, which stand for no effect, and then those that
 /// stand for effects, in the order of the effects: of the preconditions on a variable the first
 /// stands for the first effect on it, the second for the second, and so on.
-#[derive(Debug, Drop)]
+#[derive(Drop)]
 pub struct Operator {
     pub name: Seq<u8>,
     pub pre: Seq<Fact>,
@@ -38,7 +38,7 @@ pub struct Operator {
 
 /// How an operator counts: at its cost, as 1, or at one more than its cost. In a task whose
 /// operators all cost 1, the last counts 1 as well.
-#[derive(Clone, Copy, Debug, PartialEq, Eq)]
+#[derive(Clone, Copy, PartialEq, Eq)]
 pub enum CostKind {
     Normal,
     One,
@@ -47,7 +47,7 @@ pub enum CostKind {
 
 /// An axiom rule: where the conditions hold, the derived variable of the head has its value. In a
 /// task no rule gives a variable its default.
-#[derive(Debug, Drop)]
+#[derive(Drop)]
 pub struct Rule {
     pub conds: Seq<Fact>,
     pub head: Fact,
@@ -55,7 +55,7 @@ pub struct Rule {
 
 /// The parts of a task. `init` has the initial values, which are the defaults of the derived
 /// variables; where `metric` is false, every operator costs 1.
-#[derive(Debug, Drop)]
+#[derive(Drop)]
 pub struct Parts {
     pub metric: bool,
     pub variables: Seq<Variable>,

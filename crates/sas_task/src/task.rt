@@ -14,7 +14,7 @@ use crate::facts::{atom_of, before_arguments, have_both, value_name};
 use std::marker::Model;
 
 /// A task: parts that are well formed.
-#[derive(Debug, Drop)]
+#[derive(Drop)]
 pub struct Task {
     parts: Parts,
     unit_cost: bool,

@@ -3,7 +3,7 @@ use crate::turns::PopResult;
 use std::mem::size_of;
 
 /// A visit without its preferred operators.
-#[derive(Clone, Copy, Debug)]
+#[derive(Clone, Copy)]
 pub struct VisitRow {
     pub(crate) g: u64,
     pub(crate) id: u32,
@@ -12,7 +12,7 @@ pub struct VisitRow {
 }
 
 /// A pop in 12 bytes.
-#[derive(Clone, Copy, Debug)]
+#[derive(Clone, Copy)]
 pub struct PopRow {
     pub(crate) parent: u32,
     pub(crate) op: u32,

@@ -14,7 +14,7 @@ use std::marker::Model;
 ///
 /// A pop takes 12 bytes and a visit 40, and the preferred operators of all visits stand in one
 /// vector. A log with 2^32 visits or preferred operators finds no memory.
-#[derive(Debug, Drop)]
+#[derive(Drop)]
 pub struct Log {
     visits: Vec<VisitRow>,
     preferred: Rows<u32>,

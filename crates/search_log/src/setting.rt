@@ -2,14 +2,14 @@
 use sas_task::CostKind;
 
 /// When to stop: `limit` milliseconds after `start`.
-#[derive(Clone, Copy, Debug, PartialEq, Eq)]
+#[derive(Clone, Copy, PartialEq, Eq)]
 pub struct Stop {
     pub start: u64,
     pub limit: u64,
 }
 
 /// What a phase of a search is asked.
-#[derive(Clone, Copy, Debug)]
+#[derive(Clone, Copy)]
 pub struct Setting {
     /// How operators count, for what it costs to reach a state.
     pub cost: CostKind,
@@ -30,7 +30,7 @@ pub struct Setting {
 }
 
 /// A limit that a phase reached.
-#[derive(Clone, Copy, Debug, PartialEq, Eq)]
+#[derive(Clone, Copy, PartialEq, Eq)]
 pub enum LimitHit {
     /// The clock answered `moment`, which isn't before the end of the limit.
     Time { start: u64, limit: u64, moment: u64 },

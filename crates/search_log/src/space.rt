@@ -9,7 +9,7 @@ use std::marker::Model;
 /// States with their costs, in the order in which they were found.
 ///
 /// The states stand in one vector: one with 2^32 values or more in all finds no memory.
-#[derive(Debug, Drop)]
+#[derive(Drop)]
 pub struct Space {
     states: Rows<u32>,
     costs: Vec<u64>,

@@ -1,7 +1,7 @@
 // What a log is made of.
 
 /// What became of an entry that was taken.
-#[derive(Clone, Copy, Debug, PartialEq, Eq)]
+#[derive(Clone, Copy, PartialEq, Eq)]
 pub enum PopResult {
     /// Its state is known, or costs too much: it isn't visited.
     Known,
@@ -18,7 +18,7 @@ pub enum PopResult {
 }
 
 /// An entry that was taken from a list: the operator `op` in the state of visit `parent`.
-#[derive(Clone, Copy, Debug, PartialEq, Eq)]
+#[derive(Clone, Copy, PartialEq, Eq)]
 pub struct Pop {
     pub list: u32,
     pub parent: u64,
@@ -28,7 +28,7 @@ pub struct Pop {
 
 /// A visit as a log lends it: the number of its state, what it cost to reach by the kind of cost,
 /// and what the guides said of it.
-#[derive(Clone, Copy, Debug)]
+#[derive(Clone, Copy)]
 pub struct VisitAt<'a> {
     pub id: u32,
     pub g: u64,

@@ -16,7 +16,7 @@ use std::test::Fail;
 use test_tasks::task;
 
 /// The end of a search, with the number of its pops.
-#[derive(Clone, Copy, Debug, PartialEq, Eq)]
+#[derive(Clone, Copy, PartialEq, Eq)]
 pub enum End {
     Plan {
         cost: u64,

@@ -2,7 +2,7 @@
 
 /// A state is new and now has this number, or it is known under this number, or it isn't known and
 /// there is no room for it.
-#[derive(Clone, Copy, Debug, PartialEq, Eq)]
+#[derive(Clone, Copy, PartialEq, Eq)]
 pub enum Interned {
     New(u32),
     Known(u32),

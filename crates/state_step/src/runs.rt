@@ -1,5 +1,5 @@
 /// How a run of operators from the initial state ends. Steps count from 1.
-#[derive(Clone, Copy, Debug, PartialEq, Eq)]
+#[derive(Clone, Copy, PartialEq, Eq)]
 pub enum RunEnd {
     /// It reaches the goal: the operators are a plan, of this cost.
     Goal { cost: u64 },

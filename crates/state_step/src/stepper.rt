@@ -21,7 +21,7 @@ use std::mem::swap;
 ///
 /// The task is given again at each call; it is the one for which the value was made. A state is a
 /// slice with one value for each variable. Only `new` takes memory.
-#[derive(Debug, Drop)]
+#[derive(Drop)]
 pub struct Stepper {
     axioms: Axioms,
     operators: Operators,

@@ -8,14 +8,14 @@ use sas_task::{Effect, Fact, Operator};
 use std::alloc::Global;
 
 /// What an effect gives, and the row of its conditions. Row 0 has no conditions.
-#[derive(Clone, Copy, Debug)]
+#[derive(Clone, Copy)]
 pub struct Change {
     pub fact: Fact,
     pub conds: u32,
 }
 
 /// Preconditions and effects of operators, by their numbers.
-#[derive(Debug, Drop)]
+#[derive(Drop)]
 pub struct Operators {
     pub pre: Rows<Fact>,
     pub changes: Rows<Change>,

@@ -10,21 +10,21 @@ use std::alloc::{AllocError, Global};
 
 /// The way to a node: from the node above it, by a fact. The branch at place i leads to node i + 1;
 /// node 0 is the root.
-#[derive(Clone, Copy, Debug, PartialEq, Eq)]
+#[derive(Clone, Copy, PartialEq, Eq)]
 pub struct Branch {
     pub parent: u32,
     pub fact: Fact,
 }
 
 /// The node at which an operator stands.
-#[derive(Clone, Copy, Debug)]
+#[derive(Clone, Copy)]
 pub struct Home {
     pub node: u32,
     pub operator: u32,
 }
 
 /// An operator that has come to a node and goes on by the next of its conditions.
-#[derive(Clone, Copy, Debug, PartialEq, Eq, PartialOrd, Ord)]
+#[derive(Clone, Copy, PartialEq, Eq, PartialOrd, Ord)]
 pub struct Step {
     pub node: u32,
     pub fact: Fact,
@@ -32,7 +32,7 @@ pub struct Step {
 }
 
 /// The branches of a tree and the operators at its nodes, both in the order of the nodes.
-#[derive(Debug, Drop)]
+#[derive(Drop)]
 pub struct Grown {
     pub branches: Vec<Branch>,
     pub homes: Vec<Home>,

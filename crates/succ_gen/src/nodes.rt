@@ -15,7 +15,7 @@ use std::alloc::{AllocError, Global};
 /// and operators of the last one end.
 ///
 /// The children of a node are numbered one after the other, ascending by variable and value.
-#[derive(Clone, Copy, Debug)]
+#[derive(Clone, Copy)]
 pub struct Node {
     /// The fact that leads to the node from its parent.
     pub fact: Fact,

@@ -17,7 +17,7 @@ use std::marker::Model;
 /// slice with one value for each variable. Only `new` takes memory.
 ///
 /// After the successor generators of Fast Downward (Helmert 2006).
-#[derive(Debug, Drop)]
+#[derive(Drop)]
 pub struct Tree {
     nodes: Seq<Node>,
     operators: Seq<u32>,
