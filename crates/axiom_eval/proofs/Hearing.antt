@@ -6,14 +6,15 @@ use Rattle.std.proofs.lemmas.List.{length-set, drop_more}
 use Rattle.std.proofs.lemmas.Option.{get_or_from_slice_get}
 use Rattle.lama_num.specs.Rows.{row_at}
 use Rattle.std.proofs.lemmas.List.Folds.{list_any-append, list_all-append}
-use Rattle.lama_num.specs.Lists.{both}
+use Rattle.lama_num.proofs.ListLaws.{both}
 use Rattle.sas_task.specs.declared.contents.Fact.{Fact}
 use Rattle.sas_task.specs.declared.contents.Rule.{Rule}
 use Rattle.sas_task.specs.declared.contents.Parts.{Parts}
 use Rattle.sas_task.specs.WellFormed.{IsWellFormed, layer_of, starts}
 use Rattle.sas_task.specs.States.{is_layer, holds, all_hold, round_of, rounds_of, size_of}
-use Rattle.sas_task.specs.Laws.{init-state, rule-at}
-use Rattle.axiom_eval.specs.Layers.{is_of, gain, Below, fires_on, some_fires, open_among, open_of}
+use Rattle.sas_task.proofs.RunLaws.{init-state, rule-at}
+use Rattle.axiom_eval.specs.Layers.{is_of, gain, Below, open_among, open_of}
+use Rattle.axiom_eval.proofs.FiringLaws.{fires_on, some_fires}
 use Rattle.axiom_eval.specs.Rules.{layer_at, given_at, conds_at, head_at, is_on, is_due, is_watching, AreWithin, StandsAt, HasRule, HasPlace, AreRules}
 use Rattle.axiom_eval.specs.Settling.{is_awaited, IsHeard, IsHearing, IsBetween}
 use Rattle.axiom_eval.specs.declared.tables.Head.{Head}

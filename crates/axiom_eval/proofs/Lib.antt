@@ -4,3 +4,5 @@ pub mod Resetting
 pub mod Rounds
 pub mod Sound
 pub mod Upwards
+pub mod FiringLaws
+pub mod Written

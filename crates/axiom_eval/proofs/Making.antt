@@ -7,16 +7,17 @@ use Rattle.std.proofs.lemmas.List.{length-set, length-map, take_more, map-append
 use Rattle.std.proofs.lemmas.List.Folds.{list_any_more, list_any-append, list_all-append}
 use Rattle.std.proofs.lemmas.List.Sorted.{list_any-IsPermutation, length_permutation}
 use Rattle.std.proofs.lemmas.Option.{slice_get_within, slice_get-get_or, get_or_from_slice_get}
-use Rattle.lama_num.specs.Lists.{both, list_all_get}
+use Rattle.lama_num.proofs.ListLaws.{both, list_all_get}
 use Rattle.lama_num.specs.Rows.{row_at}
 use Rattle.sas_task.specs.declared.contents.Fact.{Fact}
 use Rattle.sas_task.specs.declared.contents.Variable.{Variable}
 use Rattle.sas_task.specs.declared.contents.Rule.{Rule}
 use Rattle.sas_task.specs.declared.contents.Parts.{Parts}
 use Rattle.sas_task.specs.WellFormed.{IsWellFormed, layer_of, is_rule, is_fact}
-use Rattle.sas_task.specs.Within.{is_within, fact_within, all_facts_within}
+use Rattle.sas_task.specs.Within.{is_within}
+use Rattle.sas_task.proofs.WithinLaws.{fact_within, all_facts_within}
 use Rattle.sas_task.specs.States.{is_layer}
-use Rattle.sas_task.specs.Laws.{IsRule, rule-at}
+use Rattle.sas_task.proofs.RunLaws.{IsRule, rule-at}
 use Rattle.axiom_eval.specs.Layers.{is_of}
 use Rattle.axiom_eval.specs.Rules.{head_at, layer_at, given_at, conds_at, is_on, is_watching, AreWithin, StandsAt, HasRule, HasPlace, AreRules}
 use Rattle.axiom_eval.specs.Building.{is_slot, AreSlots, is_rule_below, head_of, conds_of, AddsWatcher, AreWatchers}

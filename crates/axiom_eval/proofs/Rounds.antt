@@ -4,7 +4,7 @@ use Rattle.std.specs.List.{list_all, list_any, enumerate_from}
 use Rattle.std.proofs.lemmas.Bool.Decides.{nat_tests}
 use Rattle.std.proofs.lemmas.List.{ext_get_or, get_or_past, length-set}
 use Rattle.std.proofs.lemmas.List.Sums.{count_by-le-length, sum_by-cons}
-use Rattle.lama_num.specs.Lists.{both}
+use Rattle.lama_num.proofs.ListLaws.{both}
 use Rattle.sas_task.specs.declared.contents.Fact.{Fact}
 use Rattle.sas_task.specs.declared.contents.Variable.{Variable}
 use Rattle.sas_task.specs.declared.contents.Effect.{Effect}
@@ -12,7 +12,8 @@ use Rattle.sas_task.specs.declared.contents.Rule.{Rule}
 use Rattle.sas_task.specs.declared.contents.Parts.{Parts}
 use Rattle.sas_task.specs.WellFormed.{layer_of}
 use Rattle.sas_task.specs.States.{given, last_or, holds, all_hold, written, rules_of, is_layer, round_of, rounds_of, size_of}
-use Rattle.axiom_eval.specs.Layers.{is_of, gain, Below, fires_on, some_fires, open_among, open_of}
+use Rattle.axiom_eval.specs.Layers.{is_of, gain, Below, open_among, open_of}
+use Rattle.axiom_eval.proofs.FiringLaws.{fires_on, some_fires}
 
 -- a rule of the layer gives the gain, and its conditions in the layer are on gains
 abbrev pub is_sound_cond : Parts → ℕ → Fact → Bool

@@ -3,14 +3,14 @@ use Rattle.std.proofs.Common.{◌≡◌, ◌≢◌, ◌∙◌, sym, ap, refl, �
 use Rattle.std.specs.List.{list_all, list_any}
 use Rattle.std.proofs.lemmas.Bool.Decides.{nat_tests}
 use Rattle.std.proofs.lemmas.Option.{slice_get_within}
-use Rattle.lama_num.specs.Lists.{both, list_all_get}
+use Rattle.lama_num.proofs.ListLaws.{both, list_all_get}
 use Rattle.sas_task.specs.declared.contents.Fact.{Fact}
 use Rattle.sas_task.specs.declared.contents.Variable.{Variable}
 use Rattle.sas_task.specs.declared.contents.Rule.{Rule}
 use Rattle.sas_task.specs.declared.contents.Parts.{Parts}
 use Rattle.sas_task.specs.WellFormed.{IsWellFormed, layer_of, range_of, is_fact, is_default, is_variable, is_layered, is_layered_below, is_short}
 use Rattle.sas_task.specs.States.{is_layer}
-use Rattle.sas_task.specs.Laws.{init-state, IsRule, rule-at}
+use Rattle.sas_task.proofs.RunLaws.{init-state, IsRule, rule-at}
 use Rattle.axiom_eval.specs.Layers.{is_of, gain}
 use Rattle.axiom_eval.proofs.Rounds.{is_sound_cond, is_sound_rule, are_sound}
 

@@ -10,7 +10,7 @@ use Rattle.sas_task.specs.WellFormed.{layer_of, is_derived}
 use Rattle.sas_task.specs.States.{written, rules_of, round_of, rounds_of, size_of, settled_below, settled, above, top_of, reset, default_or}
 use Rattle.axiom_eval.specs.Layers.{is_of}
 use Rattle.axiom_eval.specs.Rules.{layer_at, AreRules}
-use Rattle.axiom_eval.specs.Written.{written_none}
+use Rattle.axiom_eval.proofs.Written.{written_none}
 use Rattle.axiom_eval.specs.declared.tables.Rules.{Rules}
 use Rattle.axiom_eval.proofs.Sound.{same_layer}
 use Rattle.axiom_eval.proofs.Hearing.{any_found, IsFound}

@@ -1,13 +1,10 @@
 -- The variables of a layer, and what its rules give them.
 use Rattle.std.specs.Prelude.{◌≡◌, ℕ, ◌+◌, ◌-◌, List, [], ◌∷◌, length, Bool, true, not, nat_eq, ◌&&◌, slice_index, if◌then◌else◌}
 use Rattle.std.proofs.Common.{◌⊎◌}
-use Rattle.std.specs.List.{list_all, list_any}
-use Rattle.sas_task.specs.declared.contents.Fact.{Fact}
 use Rattle.sas_task.specs.declared.contents.Variable.{Variable}
-use Rattle.sas_task.specs.declared.contents.Rule.{Rule}
 use Rattle.sas_task.specs.declared.contents.Parts.{Parts}
 use Rattle.sas_task.specs.WellFormed.{layer_of}
-use Rattle.sas_task.specs.States.{all_hold, is_layer}
+use Rattle.sas_task.specs.States.{is_layer}
 
 -- the variable is of the layer
 abbrev pub is_of : Parts → ℕ → ℕ → Bool
@@ -21,13 +18,6 @@ gain parts var = 1 - slice_index parts.init var
 pub record Below (parts : Parts) (layer : ℕ) (state other : List ℕ) : Type 0 where
   pub long : length state ≡ length other
   pub at : (var : ℕ) → (slice_index state var ≡ slice_index other var) ⊎ ((is_of parts layer var ≡ true) × (slice_index other var ≡ gain parts var))
-
--- a rule of the layer with this variable as its head fires
-abbrev pub fires_on : Parts → ℕ → List ℕ → ℕ → Rule → Bool
-fires_on parts layer state var rule = is_of parts layer rule.head.var && (all_hold state rule.conds && nat_eq rule.head.var var)
-
-abbrev pub some_fires : Parts → ℕ → List ℕ → ℕ → List Rule → Bool
-some_fires parts layer state var rules = list_any (fires_on parts layer state var) rules
 
 -- how many variables of the layer were not given
 abbrev pub open_among : ℕ → List Variable → List ℕ → List ℕ → ℕ

@@ -5,4 +5,3 @@ pub mod Layers
 pub mod Rules
 pub mod Settling
 pub mod Within
-pub mod Written

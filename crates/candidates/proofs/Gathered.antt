@@ -8,12 +8,12 @@ use Rattle.driver_core.specs.declared.settings.Setting.{Setting}
 use Rattle.driver_core.specs.Settings.{most_plans}
 use Rattle.driver_core.specs.Keeping.{kept_costs, is_kept, is_below}
 use Rattle.driver_core.specs.Legal.{IsAllowed}
-use Rattle.driver_core.specs.Laws.{kept_costs-push_plan, kept_costs-push_other, kept_costs-few, IsOn-offer}
+use Rattle.driver_core.proofs.OneMoreEvent.{kept_costs-push_plan, kept_costs-push_other, kept_costs-few, IsOn-offer}
 use Rattle.driver_core.specs.Standing.{StandsFor}
 use Rattle.driver_core.specs.States.{CoreState}
 use Rattle.driver_core.specs.Turns.{Turn, offers}
 use Rattle.candidates.specs.Collecting.{IsInTurn, KeepsBelow}
-use Rattle.candidates.specs.Plans.{AreFew}
+use Rattle.candidates.proofs.CandidateLists.{AreFew}
 
 -- the core is told of a candidate, and the kept plans are then these
 abbrev pub Stands : CoreState → CoreState → List Event → Event → Type 0

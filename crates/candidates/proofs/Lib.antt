@@ -4,3 +4,4 @@ pub mod Gathered
 pub mod Loop
 pub mod Taken
 pub mod Verdicts
+pub mod CandidateLists

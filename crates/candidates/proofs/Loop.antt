@@ -4,13 +4,13 @@ use Rattle.std.proofs.Common.{◌≡◌, ◌≢◌, ℕ, zero, suc, ◌+◌, ◌
 use Rattle.std.specs.FinMap.{get}
 use Rattle.lama_host.specs.Folder.{Told, Files, WhereTold, IsUntouched, last_of}
 use Rattle.lama_num.specs.Names.{part_name, child_name}
-use Rattle.lama_num.specs.NameLaws.{child≢base, child≢part, child≢numbered, child_numbered≢base, child_numbered≢part, child_numbered≢numbered}
+use Rattle.lama_num.proofs.NameLaws.{child≢base, child≢part, child≢numbered, child_numbered≢base, child_numbered≢part, child_numbered≢numbered}
 use Rattle.sas_task.specs.declared.contents.Parts.{Parts}
 use Rattle.sas_task.specs.declared.plans.Kept.{Kept}
 use Rattle.plan_check.specs.declared.verdicts.Verdict.{Verdict}
 use Rattle.plan_check.specs.Verdicts.{verdict_of}
 use Rattle.plan_manager.specs.Family.{family_name}
-use Rattle.plan_manager.specs.FamilyLaws.{family_zero, family_numbered}
+use Rattle.plan_manager.proofs.FamilyLaws.{family_zero, family_numbered}
 use Rattle.plan_manager.specs.Keeping.{plan_number}
 use Rattle.driver_core.specs.declared.events.Event.{Event}
 use Rattle.driver_core.specs.declared.settings.Setting.{Setting}
@@ -22,8 +22,8 @@ use Rattle.candidates.specs.declared.reading.ReadError.TheVariants.{Failed}
 use Rattle.candidates.specs.ChildFiles.{ChildFile, file_of, child_files}
 use Rattle.candidates.specs.Collecting.{IsInTurn, KeepsBelow, Standing, TakesIn}
 use Rattle.candidates.specs.Judging.{Judged, judged_as, judged_of, offer_of, plans_of, judged_in, AreAllOrFirst}
-use Rattle.candidates.specs.Laws.{keeping_writes}
-use Rattle.candidates.specs.Plans.{AreFew, WritesPlans}
+use Rattle.candidates.proofs.CandidateLists.{keeping_writes}
+use Rattle.candidates.proofs.CandidateLists.{AreFew, WritesPlans}
 use Rattle.candidates.proofs.ChildFiles.{files_from, files_at_first, file_then, no_single, no_more, no_files_at_end, judged_over, judged_none, judged_next}
 use Rattle.candidates.proofs.Gathered.{few_plans}
 use Rattle.candidates.proofs.Taken.{takes_none, takes_then, takes_untouched, events_then}

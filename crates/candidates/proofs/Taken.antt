@@ -4,8 +4,8 @@ use Rattle.std.proofs.Common.{◌≡◌, ◌≢◌, ℕ, ◌+◌, ◌-◌, Bool,
 use Rattle.std.proofs.lemmas.Bool.{cases_lt}
 use Rattle.std.proofs.lemmas.List.{map-append}
 use Rattle.lama_host.specs.Folder.{Told, Files, Changes, IsUntouched, last_of}
-use Rattle.lama_host.specs.StepLaws.{changes_none, changes_then, changes_weaker, changes_untouched}
-use Rattle.lama_num.specs.Lists.{slice_get-append_front}
+use Rattle.lama_host.proofs.StepLaws.{changes_none, changes_then, changes_weaker, changes_untouched}
+use Rattle.lama_num.proofs.ListLaws.{slice_get-append_front}
 use Rattle.sas_task.specs.declared.contents.Parts.{Parts}
 use Rattle.sas_task.specs.declared.plans.Kept.{Kept}
 use Rattle.sas_task.specs.Runs.{IsPlanOf}
@@ -22,7 +22,7 @@ use Rattle.candidates.specs.declared.reading.ReadError.{ReadError}
 use Rattle.candidates.specs.declared.reading.ReadError.TheVariants.{Failed, NoMemory}
 use Rattle.candidates.specs.Collecting.{IsInTurn, Standing, TakesIn, finished}
 use Rattle.candidates.specs.Judging.{Judged, judged_as, real_cost, offer_of, plans_of, candidates_of}
-use Rattle.candidates.specs.Laws.{plans_of-append, candidates_of-none, candidates_of-one, candidates_of-append, only_one, slice_get-behind, kept_then}
+use Rattle.candidates.proofs.CandidateLists.{plans_of-append, candidates_of-none, candidates_of-one, candidates_of-append, only_one, slice_get-behind, kept_then}
 use Rattle.candidates.specs.Plans.{ArePlans, PlacesLast, PlacesKept}
 
 -- nothing

@@ -87,11 +87,3 @@ candidate_of turn before judged = record { round = turn.round; entry = turn.entr
 unfoldable pub candidates_of : Turn → ℕ → List Judged → List Candidate
 candidates_of turn before [] = []
 candidates_of turn before (judged ∷ more) = candidate_of turn before judged ∷ candidates_of turn (before + length (plans_of turn (judged ∷ []))) more
-
--- the place of a candidate among the kept plans, where it was kept
-abbrev pub place_of : Candidate → Option ℕ
-place_of candidate = place candidate.found
-  where
-    place : Found → Option ℕ
-    place (IsKept index) = Some index
-    place (Dropped fault) = None

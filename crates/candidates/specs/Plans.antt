@@ -1,13 +1,11 @@
 -- Plans of a task, and their texts in a folder.
-use Rattle.std.specs.Prelude.{◌≡◌, ◌≢◌, ℕ, ◌+◌, ◌<◌, ◌≤◌, List, [], ◌∷◌, ◌++◌, length, Bool, true, false, slice_get, Option, Some, Result, Ok, Err, ◌⊎◌}
-use Rattle.std.specs.FinMap.{get}
+use Rattle.std.specs.Prelude.{◌≡◌, ℕ, ◌+◌, List, [], ◌∷◌, ◌++◌, length, Bool, true, slice_get, Option, Some, Result, Ok, Err, ◌⊎◌}
 use Rattle.lama_host.specs.Folder.{Files, last_of}
-use Rattle.lama_num.specs.Names.{part_name}
 use Rattle.sas_task.specs.declared.contents.Parts.{Parts}
 use Rattle.sas_task.specs.declared.plans.Kept.{Kept}
 use Rattle.sas_task.specs.Runs.{IsPlanOf}
 use Rattle.plan_text.specs.PlanText.{plan_text}
-use Rattle.plan_manager.specs.Keeping.{PlacesPlan, plan_file}
+use Rattle.plan_manager.specs.Keeping.{PlacesPlan}
 use Rattle.driver_core.specs.Keeping.{is_below}
 use Rattle.candidates.specs.declared.reading.ReadError.{ReadError}
 use Rattle.candidates.specs.declared.reading.ReadError.TheVariants.{Failed, NoMemory}
@@ -15,11 +13,6 @@ use Rattle.candidates.specs.declared.reading.ReadError.TheVariants.{Failed, NoMe
 -- each is a plan of the task
 abbrev pub ArePlans : Parts → List Kept → Type 0
 ArePlans parts plans = (k : ℕ) (plan : Kept) → slice_get plans k ≡ Some plan → IsPlanOf parts plan.ops plan.cost
-
--- The numbers of so many plans are small, and without many there is at most one plan.
-pub record AreFew (many : Bool) (count : ℕ) : Type 0 where
-  pub small : count ≤ 9999
-  pub single : many ≡ false → count ≤ 1
 
 -- The texts of plans are placed one after another, where so many were kept before.
 abbrev pub PlacesPlans : List ℕ → Bool → Parts → ℕ → List Kept → Files → List Files → Type 0
@@ -44,8 +37,3 @@ PlacesKept result base many parts before plans bound files steps =
     (placed : List Files) × (last : List Files) × (steps ≡ placed ++ last)
     × PlacesPlans base many parts before plans files placed
     × PlacesLast result base many parts (before + length plans + 1) bound (last_of files placed) last
-
--- The texts of plans were written, each under its name, and all other names but base.part hold what they held.
-pub record WritesPlans (base : List ℕ) (many : Bool) (parts : Parts) (kept_before : ℕ) (plans : List Kept) (before after : Files) : Type 0 where
-  pub texts : (k : ℕ) (plan : Kept) → slice_get plans k ≡ Some plan → get after (plan_file base many (kept_before + k + 1)) ≡ Some (plan_text parts plan.ops)
-  pub others : (name : List ℕ) → name ≢ part_name base → ((k : ℕ) → k < length plans → name ≢ plan_file base many (kept_before + k + 1)) → get after name ≡ get before name

@@ -4,7 +4,7 @@ use Rattle.std.specs.Prelude.{not, ◌&&◌, if◌then◌else◌, codes, nat_le,
 use Rattle.std.proofs.lemmas.Bool.{ltb-true, leb-true}
 use Rattle.std.proofs.lemmas.List.{append-nil}
 use Rattle.std.proofs.lemmas.List.Elements.{All-nil, All-cons, All-append}
-use Rattle.lama_num.specs.Lists.{both}
+use Rattle.lama_num.proofs.ListLaws.{both}
 use Rattle.lama_num.specs.Decimals.{decimal_of}
 use Rattle.conf_text.specs.Tokens.{Spot, Token, next, is_word}
 use Rattle.conf_text.specs.Rules.{Rule, ◌>>=◌, gives, judged, token, bad_at, refused, is_text, fixed, another, member_and_more, members}

@@ -8,8 +8,8 @@ use Rattle.std.proofs.lemmas.Bool.{eqb-true, le-leb, lt-ltb}
 use Rattle.std.proofs.lemmas.List.{append-nil}
 use Rattle.std.proofs.lemmas.List.Folds.{list_any-append}
 use Rattle.lama_num.specs.Decimals.{is_decimal}
-use Rattle.lama_num.specs.DecimalLaws.{decimal_of-decimal, decimal_of_some}
-use Rattle.lama_num.specs.Lists.{both}
+use Rattle.lama_num.proofs.DecimalLaws.{decimal_of-decimal, decimal_of_some}
+use Rattle.lama_num.proofs.ListLaws.{both}
 use Rattle.sas_task.specs.declared.contents.CostKind.{CostKind}
 use Rattle.sas_task.specs.declared.contents.CostKind.TheVariants.{Normal, One, PlusOne}
 use Rattle.conf_text.specs.Tokens.{Spot, is_word_byte, next, after_blanks, token_length}

@@ -5,7 +5,7 @@ use Rattle.std.specs.List.{list_all, position_or_len}
 use Rattle.std.proofs.lemmas.List.{append-nil}
 use Rattle.std.proofs.lemmas.Bool.{eqb-true}
 use Rattle.std.proofs.Math.Seq.{take-append_seam, drop-append_seam}
-use Rattle.lama_num.specs.Lists.{both}
+use Rattle.lama_num.proofs.ListLaws.{both}
 use Rattle.text_lines.specs.Lines.{is_blank}
 use Rattle.conf_text.specs.Tokens.{Spot, Token, is_word_byte, is_word, ends_word, after_blanks, token_length, cut_token, next}
 use Rattle.conf_text.specs.Rules.{Rule, ◌>>=◌, gives, behind, token, fixed, another, member_and_more, members}

@@ -14,7 +14,7 @@ use Rattle.std.specs.Option.{IfSome, OnSome, IfNone}
 use Rattle.std.specs.Result.{IsOk, OnOk}
 use Rattle.std.specs.Ordering.{is_lt}
 use Rattle.cost_queue.specs.Queues.{price_of, IsTaken}
-use Rattle.cost_queue.specs.Laws.{there}
+use Rattle.cost_queue.proofs.WaitingLaws.{there}
 use Rattle.cost_queue.specs.Links.{is_price, waits, IsChain, Item, order, one_of, times, is_high, IsQueue}
 use Rattle.cost_queue.specs.Occurrences.{one_if, occurrences}
 use Rattle.cost_queue.specs.declared.entry.Entry.{Entry}

@@ -1,4 +1,3 @@
-pub mod Laws
 pub mod LinkNumbers
 pub mod Links
 pub mod Occurrences

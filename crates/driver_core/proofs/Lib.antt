@@ -4,3 +4,5 @@ pub mod Present
 pub mod Steps
 pub mod Times
 pub mod Stopping
+pub mod OneMoreEvent
+pub mod PastLaws

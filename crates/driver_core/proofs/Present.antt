@@ -16,7 +16,7 @@ use Rattle.driver_core.specs.Keeping.{is_kept}
 use Rattle.driver_core.specs.Rounds.{keeps_for, has_kept, runs_in, has_entries, is_ended, is_last_round, round_in, has_last_round}
 use Rattle.driver_core.specs.States.{CoreState, is_marked, has_next, is_at_end, next_round, with_plan}
 use Rattle.driver_core.specs.Standing.{is_after, IsPresent, is_unended, is_keeper, HoldsRound}
-use Rattle.driver_core.specs.Laws.{has_begun-push, has_ended-push, has_kept-push}
+use Rattle.driver_core.proofs.OneMoreEvent.{has_begun-push, has_ended-push, has_kept-push}
 use Rattle.driver_core.proofs.Tests.{same_truth, none_left, count_by-falls, count_by-marks, list_any-marks, all_marked, marked, any_of_range, one_of_all, all_stay, any_so}
 
 -- what runs is an entry

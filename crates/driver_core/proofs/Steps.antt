@@ -10,7 +10,8 @@ use Rattle.std.specs.List.{list_any, count_by, last_or}
 use Rattle.std.specs.FinSet as set
 use Rattle.exit_codes.specs.Sets.{CodeSet}
 use Rattle.exit_codes.specs.Combined.{combine_of}
-use Rattle.exit_codes.specs.Parts.{codes_of, codes_of-push, norm_of}
+use Rattle.exit_codes.specs.Parts.{codes_of, norm_of}
+use Rattle.exit_codes.proofs.PartLaws.{codes_of-push}
 use Rattle.exit_codes.specs.declared.parts.Part.{Part}
 use Rattle.exit_codes.specs.declared.parts.Part.TheVariants.{OutOfTime as RanOut, PlanLimit}
 use Rattle.driver_core.specs.declared.events.Event.{Event}
@@ -27,7 +28,7 @@ use Rattle.driver_core.specs.Legal.{IsAllowed, IsLegal}
 use Rattle.driver_core.specs.Ends.{part_in, parts_in, limit_parts, code_of}
 use Rattle.driver_core.specs.States.{CoreState, all_codes, is_done, is_at_end, has_next, accepts, next_round, with_plan, after_plan, state_after, answer_of}
 use Rattle.driver_core.specs.Standing.{StandsFor, Holds, HoldsRound, is_after, is_unended, is_keeper}
-use Rattle.driver_core.specs.Laws.{kept_costs-push_plan, kept_costs-push_other, actions_of-push, none_before_first, IsLegal-push, IsLegal-front, IsLegal-last}
+use Rattle.driver_core.proofs.OneMoreEvent.{kept_costs-push_plan, kept_costs-push_other, actions_of-push, none_before_first, IsLegal-push, IsLegal-front, IsLegal-last}
 use Rattle.driver_core.proofs.Bounds.{is_below-bound_of}
 use Rattle.driver_core.proofs.Tests.{count_by-all, count_by-some, any_of_range, all_marked}
 use Rattle.driver_core.proofs.Present.{runs_entry, on_present, round_stays, round_keeps, round_ends, round_moves, is_next, at_end-holds, next-holds}

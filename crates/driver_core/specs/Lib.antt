@@ -8,4 +8,3 @@ pub mod Legal
 pub mod Ends
 pub mod States
 pub mod Standing
-pub mod Laws

@@ -17,7 +17,7 @@ use Rattle.driver_core.specs.Settings.{most_plans, entries}
 use Rattle.driver_core.specs.Standing.{StandsFor}
 use Rattle.driver_core.specs.States.{CoreState}
 use Rattle.driver_core.specs.Turns.{Turn, turn_of, begins_at, offers, is_end_of, IsOn}
-use Rattle.driver_core.specs.Laws.{kept_costs-push_other}
+use Rattle.driver_core.proofs.OneMoreEvent.{kept_costs-push_other}
 use Rattle.run_report.specs.Turns.{Offered, BegunTurn, candidate_of}
 use Rattle.run_report.specs.Tells.{events_of, all_begun, AreOfTurns}
 use Rattle.run_report.specs.Plans.{AreCheaper, ArePlans}

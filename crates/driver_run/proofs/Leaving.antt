@@ -6,13 +6,14 @@ use Rattle.lama_host.specs.Folder.{Told, Files, WhereTold, IsUntouched, Changes,
 use Rattle.lama_num.specs.Names.{part_name}
 use Rattle.sas_task.specs.declared.contents.Parts.{Parts}
 use Rattle.sas_task.specs.declared.plans.Kept.{Kept}
-use Rattle.plan_manager.specs.Clearing.{IsCleared, Clears, LeftByClearing}
+use Rattle.plan_manager.specs.Clearing.{IsCleared, Clears}
+use Rattle.plan_manager.proofs.CallLaws.{LeftByClearing}
 use Rattle.plan_manager.specs.Family.{IsNoPlan, SameOutside}
-use Rattle.plan_manager.specs.FamilyLaws.{family_zero, family_numbered}
-use Rattle.plan_manager.specs.Laws.{clearing_leaves, sealing_leaves}
+use Rattle.plan_manager.proofs.FamilyLaws.{family_zero, family_numbered}
+use Rattle.plan_manager.proofs.CallLaws.{clearing_leaves, sealing_leaves}
 use Rattle.plan_manager.specs.Sealing.{HoldsPlans, Seals}
 use Rattle.lama_host.specs.Steps.{Leaves}
-use Rattle.lama_host.specs.StepLaws.{leaves_by, told_before}
+use Rattle.lama_host.proofs.StepLaws.{leaves_by, told_before}
 use Rattle.driver_run.specs.Leaves.{LeavesPlans}
 use Rattle.driver_run.specs.Words.{is_own_name, base_name}
 use Rattle.driver_run.proofs.OwnNames.{own_base, own_part, own_number}

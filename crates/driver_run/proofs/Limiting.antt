@@ -2,7 +2,7 @@
 use Rattle.std.proofs.Common.{◌≡◌, ◌∙◌, refl, sym, ap, subst, ℕ, zero, suc, ◌+◌, ◌<◌, ◌≤◌, Bool, true, false, List, [], ◌∷◌, ◌++◌, length, nat_lt, slice_get, Option, Some, None, IfSome, arith}
 use Rattle.std.specs.Prelude.{not, ◌&&◌, ◌||◌}
 use Rattle.std.proofs.lemmas.List.Folds.{list_any-append}
-use Rattle.lama_num.specs.Lists.{both}
+use Rattle.lama_num.proofs.ListLaws.{both}
 use Rattle.sas_task.specs.declared.contents.Parts.{Parts}
 use Rattle.sas_task.specs.WellFormed.{IsWellFormed}
 use Rattle.conf_text.specs.declared.config.GuideKind.{GuideKind}
@@ -17,7 +17,7 @@ use Rattle.search_log.specs.declared.setting.LimitHit.{LimitHit}
 use Rattle.search_log.specs.declared.setting.LimitHit.TheVariants.{Time, Pops, States}
 use Rattle.search_log.specs.Logs.{Content}
 use Rattle.search_log.specs.Phases.{IsPhase, IsSetting}
-use Rattle.search_log.specs.RoomLaws.{pops_below_room, full_below_room}
+use Rattle.search_log.proofs.RoomLaws.{pops_below_room, full_below_room}
 use Rattle.iterated.specs.declared.ends.PhaseEnd.TheVariants as ended
 use Rattle.iterated.specs.Ends.{EndsFrom, PhaseEnds}
 use Rattle.iterated.specs.Iterating.{Iterating}

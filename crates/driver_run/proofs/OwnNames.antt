@@ -5,7 +5,7 @@ use Rattle.std.proofs.lemmas.Slice.Eq.{bytes_eq-Decides}
 use Rattle.std.proofs.lemmas.Bool.Decides.{nat_tests}
 use Rattle.std.proofs.lemmas.List.{append-nil}
 use Rattle.std.proofs.Math.Seq.{take-append_seam, drop-append_seam}
-use Rattle.lama_num.specs.DecimalLaws.{decimal_of-decimal}
+use Rattle.lama_num.proofs.DecimalLaws.{decimal_of-decimal}
 use Rattle.lama_num.specs.Names.{numbered_name, part_name}
 use Rattle.driver_run.specs.Words.{is_plan_number, is_own_ending, is_own_name}
 

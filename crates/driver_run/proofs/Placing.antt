@@ -1,14 +1,14 @@
 -- A plan that was placed changes nothing outside the family and base.part.
 use Rattle.std.proofs.Common.{◌≡◌, ◌∙◌, subst, refl, ℕ, ◌≤◌, List, [], Bool, true, false, Result, Ok, Err, OnOk, arith}
 use Rattle.lama_host.specs.Folder.{Told, Changes, last_of}
-use Rattle.lama_host.specs.StepLaws.{leaves_by}
+use Rattle.lama_host.proofs.StepLaws.{leaves_by}
 use Rattle.lama_host.specs.Steps.{Leaves}
 use Rattle.lama_num.specs.Names.{part_name}
 use Rattle.candidates.specs.declared.reading.ReadError.{ReadError}
 use Rattle.candidates.specs.declared.reading.ReadError.TheVariants.{Failed}
 use Rattle.plan_manager.specs.Family.{SameOutside}
 use Rattle.plan_manager.specs.Keeping.{PlacesPlan, plan_file, plan_number}
-use Rattle.plan_manager.specs.Laws.{placing_places}
+use Rattle.plan_manager.proofs.CallLaws.{placing_places}
 use Rattle.driver_run.specs.Words.{base_name}
 
 numbered_within : (many : Bool) (number : ℕ) → number ≤ 9999 → plan_number many number ≤ 9999

@@ -21,7 +21,7 @@ use Rattle.phase_ends.specs.Ends.{begun}
 use Rattle.search_log.specs.declared.turns.Pop.{Pop}
 use Rattle.search_log.specs.Logs.{Content, Visit}
 use Rattle.search_log.specs.Lawful.{Lawful}
-use Rattle.search_log.specs.LogLaws.{lawful_numbers, pops_in}
+use Rattle.search_log.proofs.LogLaws.{lawful_numbers, pops_in}
 use Rattle.search_log.specs.Phases.{Phase as SearchPhase, is_below as is_under}
 use Rattle.iterated.specs.declared.ends.PhaseEnd.{PhaseEnd}
 use Rattle.iterated.specs.declared.ends.PhaseEnd.TheVariants.{Plan, Unsolvable, Best, Unsolved, Limit, Over, NoMemory}

@@ -13,7 +13,7 @@ use Rattle.candidates.specs.declared.offers.Candidate.{Candidate}
 use Rattle.driver_core.specs.declared.events.Event.{Event}
 use Rattle.driver_core.specs.declared.settings.Setting.{Setting}
 use Rattle.driver_core.specs.Keeping.{kept_costs}
-use Rattle.driver_core.specs.Laws.{kept_costs-few}
+use Rattle.driver_core.proofs.OneMoreEvent.{kept_costs-few}
 use Rattle.driver_core.specs.Rounds.{round_in, is_last_round, has_last_round}
 use Rattle.driver_core.specs.Running.{is_out_of_time, is_last_end, is_over_after}
 use Rattle.driver_core.specs.Settings.{most_plans}

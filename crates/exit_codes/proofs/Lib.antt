@@ -1,2 +1,4 @@
 pub mod SetLaws
 pub mod CriticalLaws
+pub mod FlagLaws
+pub mod PartLaws

@@ -7,7 +7,8 @@ use Rattle.std.specs.List.{list_all}
 use Rattle.std.specs.Cmp.{nat_cmp_total}
 use Rattle.std.specs.FinSet as sets
 use Rattle.exit_codes.specs.Sets.{CodeSet}
-use Rattle.exit_codes.specs.Flags.{set_from, set_of, contains-set_of, contains-insert_nat}
+use Rattle.exit_codes.specs.Flags.{set_from, set_of, contains-insert_nat}
+use Rattle.exit_codes.proofs.FlagLaws.{contains-set_of}
 
 pub same : (s t : CodeSet) → ((q : ℕ) → sets.contains s q ≡ sets.contains t q) → s ≡ t
 same s t alike = sets.same_set nat_cmp_total sets.nat_cmp-IsAntisymmetric s t alike

@@ -51,9 +51,6 @@ contains-set_from n (suc k) q (true ∷ flags) e =
     ∙ contains-set_from (suc n) k q flags (omega arith)
 contains-set_from n (suc k) q (false ∷ flags) e = contains-set_from (suc n) k q flags (omega arith)
 
-pub contains-set_of : (flags : List Bool) (q : ℕ) → set.contains (set_of flags) q ≡ get_or flags q false
-contains-set_of flags q = contains-set_from 0 q q flags (omega arith)
-
 -- flags that tell of each number what the set says are the set's
 flags_from-told : (n : ℕ) (codes : CodeSet) (flags : List Bool) → ((k : ℕ) → set.contains codes (n + k) ≡ get_or flags k false) → flags_from n (length flags) codes ≡ flags
 unfolding flags_from

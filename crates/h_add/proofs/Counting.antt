@@ -4,19 +4,19 @@ use Rattle.std.specs.List.{list_all}
 use Rattle.std.proofs.lemmas.Bool.Decides.{nat_tests}
 use Rattle.std.proofs.lemmas.Bool.{eq-eqb, le-leb, lt-leb, leb-true, ltb-true, ltb-false, not-false}
 use Rattle.cost_queue.specs.Occurrences.{one_if, occurrences}
-use Rattle.lama_num.specs.Lists.{both}
+use Rattle.lama_num.proofs.ListLaws.{both}
 use Rattle.lama_num.specs.declared.estimates.Estimate.{Estimate}
 use Rattle.lama_num.specs.declared.estimates.Estimate.TheVariants.{Finite, Infinite}
-use Rattle.relaxed_task.specs.Elements.{places, drop_within}
+use Rattle.relaxed_task.proofs.Elements.{places, drop_within}
 use Rattle.relaxed_task.specs.Relaxing.{sum_of as total}
-use Rattle.h_add.specs.ByNumber.{price}
+use Rattle.h_add.proofs.NumberedRounds.{price}
 use Rattle.relaxed_task.specs.declared.unary.Unary.{Unary}
 use Rattle.h_add.specs.UnderWay.{Settlement, cost_at, is_settled, is_reached, is_left_out, open_at, less_open, counted, offered, one_open, share, summed, IsUnderWay, IsWaiting, IsWanted, HasCounted}
 use Rattle.h_add.specs.Values.{estimate_of, value_at}
 use Rattle.std.proofs.lemmas.List.{get_or_default, drop_all, length-set}
 use Rattle.lama_num.specs.Estimates.{estimate_sum}
-use Rattle.relaxed_task.specs.EstimateLaws.{zero_plus, plus_zero, plus_assoc}
-use Rattle.relaxed_task.specs.CostLaws.{sum_capped as total_capped}
+use Rattle.relaxed_task.proofs.EstimateLaws.{zero_plus, plus_zero, plus_assoc}
+use Rattle.relaxed_task.proofs.CostLaws.{sum_capped as total_capped}
 use Rattle.std.proofs.Math.Path.{fun_ext}
 use Rattle.cost_queue.specs.Queues.{price_of}
 use Rattle.h_add.specs.declared.network.Open.{Open}

@@ -6,12 +6,12 @@ use Rattle.std.proofs.lemmas.Bool.Decides.{nat_tests}
 use Rattle.std.proofs.lemmas.List.{append-nil, drop_all, get_or-map, get_or_append_left, get_or_default, get_or_past, get_or_push, length-map, length-set, length-take-le, length_push, map_more, take_all, take_more}
 use Rattle.std.proofs.lemmas.Option.{get_or_from_slice_get, slice_get_read, slice_get_within}
 use Rattle.cost_queue.specs.Occurrences.{one_if, occurrences}
-use Rattle.lama_num.specs.Lists.{both, list_all_get}
+use Rattle.lama_num.proofs.ListLaws.{both, list_all_get}
 use Rattle.lama_num.specs.Rows.{row_at}
 use Rattle.relaxed_task.specs.declared.unary.Unary.{Unary}
 use Rattle.relaxed_task.specs.Numbers.{is_below, is_unary_below}
-use Rattle.relaxed_task.specs.Elements.{places, join}
-use Rattle.relaxed_task.specs.NumberLaws.{weaker}
+use Rattle.relaxed_task.proofs.Elements.{places, join}
+use Rattle.relaxed_task.proofs.NumberLaws.{weaker}
 use Rattle.h_add.specs.Orders.{are_places}
 use Rattle.h_add.specs.Networks.{are_below, needed, IsNeeds, IsNeededBy, AreFree, Listed}
 

@@ -1,3 +1,5 @@
 pub mod Counting
 pub mod Growing
 pub mod Steps
+pub mod NumberedRounds
+pub mod EvaluatedLaws

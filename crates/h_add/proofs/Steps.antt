@@ -8,11 +8,11 @@ use Rattle.std.proofs.lemmas.List.Folds.{list_any-append, list_any_more}
 use Rattle.std.proofs.lemmas.List.Sums.{sum_by-set, count_by-le-length}
 use Rattle.cost_queue.specs.Occurrences.{one_if, occurrences}
 use Rattle.cost_queue.specs.Queues.{price_of, IsTaken, IsIdle}
-use Rattle.cost_queue.specs.Laws.{taken_fewer, waiting_within, there}
+use Rattle.cost_queue.proofs.WaitingLaws.{taken_fewer, waiting_within, there}
 use Rattle.cost_queue.specs.declared.entry.Entry.{Entry}
-use Rattle.relaxed_task.specs.Elements.{places, denied}
-use Rattle.relaxed_task.specs.NumberLaws.{weaker}
-use Rattle.relaxed_task.specs.PlanLaws.{all_has}
+use Rattle.relaxed_task.proofs.Elements.{places, denied}
+use Rattle.relaxed_task.proofs.NumberLaws.{weaker}
+use Rattle.relaxed_task.proofs.PlanLaws.{all_has}
 use Rattle.relaxed_task.specs.Numbers.{is_among, is_below, over_numbers}
 use Rattle.relaxed_task.specs.declared.unary.Unary.{Unary}
 use Rattle.h_add.specs.declared.network.Open.{Open}
@@ -21,16 +21,18 @@ use Rattle.h_add.proofs.Counting.{none_counted, reached_if, unsettled_not, sum_c
 use Rattle.std.specs.List.{list_all}
 use Rattle.std.proofs.Math.Path.{fun_ext}
 use Rattle.std.proofs.lemmas.Option.{slice_get_within, get_or_from_slice_get}
-use Rattle.lama_num.specs.Lists.{both}
-use Rattle.h_add.specs.ByNumber.{price, is_started, add_round, start_facts, IsAdd}
+use Rattle.lama_num.proofs.ListLaws.{both}
+use Rattle.h_add.proofs.NumberedRounds.{price, is_started, add_round}
+use Rattle.h_add.specs.ByNumber.{start_facts, IsAdd}
 use Rattle.h_add.specs.Orders.{chosen, given_by, are_places, IsOrder}
-use Rattle.h_add.specs.Laws.{chosen_grows}
+use Rattle.h_add.proofs.EvaluatedLaws.{chosen_grows}
 use Rattle.h_add.specs.Networks.{needed, IsNeededBy, AreFree, open_at_start}
 use Rattle.h_add.proofs.Growing.{needed_at, written_back}
 use Rattle.lama_num.specs.declared.estimates.Estimate.{Estimate}
 use Rattle.lama_num.specs.declared.estimates.Estimate.TheVariants.{Finite, Infinite}
-use Rattle.relaxed_task.specs.CostLaws.{IsClosed, price_at_most, price_attained, sum_capped}
-use Rattle.relaxed_task.specs.EstimateLaws.{at_most_self, at_most_trans, at_most_infinite, both_at_least, IsCapped, at_most_both, least_left, least_right, plus_left, plus_right}
+use Rattle.relaxed_task.proofs.CostLaws.{IsClosed, price_at_most, sum_capped}
+use Rattle.relaxed_task.specs.CostLaws.{price_attained}
+use Rattle.relaxed_task.proofs.EstimateLaws.{at_most_self, at_most_trans, at_most_infinite, both_at_least, IsCapped, at_most_both, least_left, least_right, plus_left, plus_right}
 use Rattle.relaxed_task.specs.Estimates.{least, IsAtMost, is_finite, IsLeast}
 use Rattle.relaxed_task.specs.Relaxing.{AreBest, IsBest, IsInOrder, least_price, sum_of as total}
 use Rattle.lama_num.specs.Estimates.{estimate_sum}

@@ -1,5 +1,4 @@
 pub mod ByNumber
-pub mod Laws
 pub mod Networks
 pub mod Orders
 pub mod UnderWay

@@ -192,7 +192,7 @@ impl Add {
 
     /// Whether some goal fact is never reached. Then no operators lead to a state where the goal
     /// holds.
-    #[tactic(auto, using(crate::specs::Laws::dead_of_all))]
+    #[tactic(auto, using(crate::proofs::EvaluatedLaws::dead_of_all))]
     pub fn is_dead(&self) -> bool
         ensures exact { (parts : Parts) (kind : TheKind) (state : List ℕ) →
             IsRelaxed parts kind self.now.relaxed →

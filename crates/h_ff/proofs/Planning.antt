@@ -5,21 +5,21 @@ use Rattle.std.proofs.lemmas.Bool.{ltb-true}
 use Rattle.std.proofs.lemmas.List.{get_or_default}
 use Rattle.std.proofs.lemmas.Option.{slice_get_read}
 use Rattle.relaxed_task.specs.Numbers.{over_numbers, is_among, by_number, costs_by}
-use Rattle.lama_num.specs.Lists.{list_all_get}
+use Rattle.lama_num.proofs.ListLaws.{list_all_get}
 use Rattle.sas_task.specs.declared.contents.Parts.{Parts}
 use Rattle.state_step.specs.Steps.{is_applicable}
 use Rattle.relaxed_task.specs.declared.unary.Unary.{Unary}
 use Rattle.h_ff.specs.Orders.{ops_of}
 use Rattle.h_add.specs.Orders.{chosen, are_places, given_by, IsOrder}
-use Rattle.h_add.specs.Laws.{finite_if_alive}
-use Rattle.relaxed_task.specs.Elements.{drop_within}
+use Rattle.h_add.proofs.EvaluatedLaws.{finite_if_alive}
+use Rattle.relaxed_task.proofs.Elements.{drop_within}
 use Rattle.relaxed_task.specs.Relaxing.{kept}
 use Rattle.sas_task.specs.declared.contents.CostKind.{CostKind}
 use Rattle.sas_task.specs.declared.contents.Variable.{Variable}
 use Rattle.relaxed_task.specs.declared.relaxation.Lists.{Lists}
 use Rattle.relaxed_task.specs.Estimates.{is_finite}
 use Rattle.relaxed_task.specs.Facts.{UnaryOperator}
-use Rattle.relaxed_task.specs.NumberLaws.{supported_by_facts, weaker}
+use Rattle.relaxed_task.proofs.NumberLaws.{supported_by_facts, weaker}
 use Rattle.relaxed_task.specs.PlanLaws.{kept_is_supported}
 use Rattle.relaxed_task.specs.Reached.{IsDead}
 use Rattle.relaxed_task.specs.Relaxations.{IsRelaxed}

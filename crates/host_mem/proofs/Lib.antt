@@ -3,3 +3,4 @@ pub mod Places
 pub mod Slots
 pub mod Telling
 pub mod Ticks
+pub mod FirstContent

@@ -8,7 +8,7 @@ use Rattle.std.specs.FinMap.{get, insert, remove, get-empty}
 use Rattle.std.specs.Cmp.Lexicographic.{slice_cmp}
 use Rattle.std.specs.Ordering.{nat_cmp}
 use Rattle.lama_host.specs.Folder.{Files}
-use Rattle.lama_host.specs.Files.{get-insert_same, get-insert_other, get-remove_same, get-remove_other}
+use Rattle.lama_host.proofs.FileLaws.{get-insert_same, get-insert_other, get-remove_same, get-remove_other}
 use Rattle.host_mem.specs.Journal.{after, holds, first_held, Write, put_by, written_by}
 use Rattle.host_mem.specs.Says.{is_of, held_after, last_write, bytes_after}
 use Rattle.host_mem.specs.declared.journal.Change.{Change}

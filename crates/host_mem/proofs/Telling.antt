@@ -3,7 +3,7 @@ use Rattle.std.proofs.Common.{◌≡◌, ◌∙◌, sym, ap, refl, subst, ℕ, L
 use Rattle.std.proofs.lemmas.List.{reverse-append, append-nil}
 use Rattle.std.specs.FinMap.{get, insert, remove}
 use Rattle.lama_host.specs.Folder.{Told, Files, Keeps, Lengthens, Passes, Changes, Once, Appends, Rose, last_of, growth, bytes_at, renamed}
-use Rattle.lama_host.specs.Laws.{last_of-growth}
+use Rattle.lama_host.proofs.AppendLaws.{last_of-growth}
 use Rattle.host_mem.specs.Journal.{Write, put_by, written_by, writing, after, holds, steps_of, moments_of, left_of, seen_by, started_from, told_by}
 use Rattle.host_mem.specs.Outcomes.{Logged, Effect, Goes, share_of}
 use Rattle.host_mem.specs.declared.children.Start.{Start}

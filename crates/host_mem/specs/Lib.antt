@@ -1,6 +1,5 @@
 pub mod Calls
 pub mod Journal
-pub mod Laws
 pub mod Memory
 pub mod Outcomes
 pub mod Says

@@ -15,7 +15,7 @@ use Rattle.phase_ends.specs.Ends.{exhausted_end, phase_end, place_after, is_exac
 use Rattle.search_log.specs.declared.setting.Stop.{Stop}
 use Rattle.search_log.specs.Logs.{Content}
 use Rattle.search_log.specs.Members.{Member}
-use Rattle.search_log.specs.SpaceLaws.{no_plan, no_cheaper_plan}
+use Rattle.search_log.proofs.SpaceLaws.{no_plan, no_cheaper_plan}
 use Rattle.search_log.specs.Spaces.{IsExhausted, is_exact, is_normal}
 use Rattle.lazy_search.specs.declared.end.SearchEnd.{SearchEnd}
 use Rattle.lazy_search.specs.declared.end.SearchEnd.TheVariants as search

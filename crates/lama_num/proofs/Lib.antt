@@ -1,3 +1,6 @@
 pub mod NameLength
 pub mod Reading
 pub mod RowLaws
+pub mod DecimalLaws
+pub mod ListLaws
+pub mod NameLaws

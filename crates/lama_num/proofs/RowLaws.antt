@@ -5,7 +5,7 @@ use Rattle.std.proofs.Math.Seq.{drop-append_seam}
 use Rattle.std.proofs.lemmas.Bool.Decides.{nat_tests}
 use Rattle.std.proofs.lemmas.List.{take-append-le, drop-append-le, take_all, map-append}
 use Rattle.std.proofs.lemmas.List.Folds.{list_all-append}
-use Rattle.lama_num.specs.Lists.{both}
+use Rattle.lama_num.proofs.ListLaws.{both}
 use Rattle.lama_num.specs.declared.rows.Span.{Span}
 use Rattle.lama_num.specs.Rows.{items_of, rows_of, is_span}
 

@@ -60,7 +60,7 @@ impl NameBuf {
     }
 
     /// `base.n`, the name of a numbered plan.
-    #[tactic(auto, using(crate::specs::NameLaws::names_only))]
+    #[tactic(auto, using(crate::proofs::NameLaws::names_only))]
     pub fn numbered(&self, n: u32) -> NameBuf
         requires short { length self.now ≤ 230 }
         requires number { IsPlanNumber n }
@@ -72,7 +72,7 @@ impl NameBuf {
     }
 
     /// `base.part`, the name under which a plan is written before it is renamed.
-    #[tactic(auto, using(crate::specs::NameLaws::names_only))]
+    #[tactic(auto, using(crate::proofs::NameLaws::names_only))]
     pub fn part(&self) -> NameBuf
         requires { length self.now ≤ 230 }
         ensures name { result ≡ part_name self.now }
@@ -86,7 +86,7 @@ impl NameBuf {
     }
 
     /// `base.cE`, the base that the child of a portfolio entry writes to.
-    #[tactic(auto, using(crate::specs::NameLaws::names_only))]
+    #[tactic(auto, using(crate::proofs::NameLaws::names_only))]
     pub fn child(&self, entry: u32) -> NameBuf
         requires short { length self.now ≤ 230 }
         requires number { IsEntryNumber entry }

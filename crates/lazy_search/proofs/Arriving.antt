@@ -11,7 +11,7 @@ use Rattle.state_registry.specs.declared.interned.Interned.{Interned}
 use Rattle.state_registry.specs.declared.interned.Interned.TheVariants as found
 use Rattle.search_log.specs.Phases.{Phase, IsPhase, is_below}
 use Rattle.search_log.specs.Places.{Past, latest}
-use Rattle.search_log.specs.TurnLaws.{result_over}
+use Rattle.search_log.proofs.TurnLaws.{result_over}
 use Rattle.lazy_search.specs.declared.rows.Row.{Row}
 use Rattle.lazy_search.specs.declared.states.States.{States}
 use Rattle.lazy_search.specs.declared.machine.Machine.{Machine}

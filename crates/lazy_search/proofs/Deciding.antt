@@ -5,17 +5,17 @@ use Rattle.std.proofs.lemmas.List.{length-map, map-append}
 use Rattle.std.proofs.lemmas.Bool.{lt-ltb, le-ltb, false≢true, and_parts, not-true}
 use Rattle.std.proofs.lemmas.Option.{slice_get-map, slice_get_within, slice_get_past, get_or_from_slice_get}
 use Rattle.sas_task.specs.States.{IsState, step}
-use Rattle.sas_task.specs.Laws.{step-state, is_some-step}
+use Rattle.sas_task.proofs.RunLaws.{step-state, is_some-step}
 use Rattle.packed_state.specs.Packing.{Places, packed}
 use Rattle.state_registry.specs.Interning.{IsAbsent}
 use Rattle.search_log.specs.declared.turns.PopResult.TheVariants.{Known, Full}
 use Rattle.search_log.specs.Phases.{Phase, IsPhase, is_below}
 use Rattle.search_log.specs.Places.{Place, Node, Past, latest, put_latest, id_of}
 use Rattle.search_log.specs.Lawful.{result_of, is_reopened}
-use Rattle.search_log.specs.Sound.{Sound}
-use Rattle.search_log.specs.Elements.{from-map}
-use Rattle.search_log.specs.SoundLaws.{id_known, id_new}
-use Rattle.search_log.specs.TurnLaws.{result_full, result_new, result_again, result_stays}
+use Rattle.search_log.proofs.Sound.{Sound}
+use Rattle.search_log.proofs.Elements.{from-map}
+use Rattle.search_log.proofs.SoundLaws.{id_known, id_new}
+use Rattle.search_log.proofs.TurnLaws.{result_full, result_new, result_again, result_stays}
 use Rattle.lazy_search.specs.declared.rows.Row.{Row}
 use Rattle.lazy_search.specs.declared.machine.Machine.{Machine}
 use Rattle.open_lists.specs.declared.entry.Entry.{Entry}

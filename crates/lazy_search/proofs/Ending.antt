@@ -6,7 +6,7 @@ use Rattle.std.proofs.lemmas.Bool.{cases_lt, cases_eq, and_parts}
 use Rattle.std.proofs.lemmas.Option.{slice_get-map, slice_get_within, slice_get_past, get_or_from_slice_get}
 use Rattle.sas_task.specs.Runs.{IsPlan, cost_of, is_goal, start_of}
 use Rattle.sas_task.specs.States.{IsState}
-use Rattle.sas_task.specs.Laws.{ops-within}
+use Rattle.sas_task.proofs.RunLaws.{ops-within}
 use Rattle.open_lists.specs.declared.lists.OpenLists.{OpenLists}
 use Rattle.open_lists.specs.declared.list.OpenList.{OpenList}
 use Rattle.open_lists.specs.Lists.{Holds, entries_in_list, list_count}
@@ -19,10 +19,10 @@ use Rattle.search_log.specs.Lawful.{GoesOn}
 use Rattle.search_log.specs.Ends.{EndsInGoal, EndsExhausted, EndsAtPops, last_of}
 use Rattle.search_log.specs.Spaces.{node_member, space_of, IsExhausted, is_exact}
 use Rattle.search_log.specs.Guided.{TellsDead}
-use Rattle.search_log.specs.Sound.{Sound, OnPath}
-use Rattle.search_log.specs.Elements.{from-map}
-use Rattle.search_log.specs.TableLaws.{latest-push, put_latest-at, table_grows}
-use Rattle.search_log.specs.SpaceLaws.{lawful_exhausted}
+use Rattle.search_log.proofs.Sound.{Sound, OnPath}
+use Rattle.search_log.proofs.Elements.{from-map}
+use Rattle.search_log.proofs.TableLaws.{latest-push, put_latest-at, table_grows}
+use Rattle.search_log.proofs.SpaceLaws.{lawful_exhausted}
 use Rattle.lazy_search.specs.declared.rows.Row.{Row}
 use Rattle.lazy_search.specs.declared.paths.Came.{Came}
 use Rattle.lazy_search.specs.declared.machine.Machine.{Machine}

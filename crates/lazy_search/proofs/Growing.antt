@@ -15,10 +15,10 @@ use Rattle.search_log.specs.declared.turns.Pop.{Pop}
 use Rattle.search_log.specs.Phases.{Phase, lists_of, is_for_preferred, is_below}
 use Rattle.search_log.specs.Places.{Node, put_latest, is_expanded, estimate}
 use Rattle.search_log.specs.Pending.{pending, puts_of, is_put, item_for}
-use Rattle.search_log.specs.Elements.{filter-same, slice_get-push_at, slice_get-push_other, slice_get-push_below}
-use Rattle.search_log.specs.PendingLaws.{pending-visited}
-use Rattle.search_log.specs.CounterLaws.{counter-visit}
-use Rattle.search_log.specs.TurnLaws.{past_with}
+use Rattle.search_log.proofs.Elements.{filter-same, slice_get-push_at, slice_get-push_other, slice_get-push_below}
+use Rattle.search_log.proofs.PendingLaws.{pending-visited}
+use Rattle.search_log.proofs.CounterLaws.{counter-visit}
+use Rattle.search_log.proofs.TurnLaws.{past_with}
 use Rattle.std.specs.List.{list_all}
 use Rattle.std.specs.Prelude.{nat_lt}
 use Rattle.lazy_search.specs.declared.shape.Shape.{Shape}

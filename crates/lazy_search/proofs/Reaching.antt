@@ -7,7 +7,7 @@ use Rattle.std.proofs.lemmas.Bool.{cases_lt}
 use Rattle.std.proofs.lemmas.Option.{slice_get-map, slice_get_within, slice_get_past, get_or_from_slice_get}
 use Rattle.sas_task.specs.States.{step}
 use Rattle.sas_task.specs.Runs.{cost_at}
-use Rattle.sas_task.specs.Laws.{taken-within}
+use Rattle.sas_task.proofs.RunLaws.{taken-within}
 use Rattle.open_lists.specs.declared.lists.OpenLists.{OpenLists}
 use Rattle.open_lists.specs.declared.entry.Popped.{Popped}
 use Rattle.open_lists.specs.declared.entry.Entry.{Entry}
@@ -19,10 +19,10 @@ use Rattle.search_log.specs.Phases.{Phase, IsPhase, lists_of, adjusted_cost}
 use Rattle.search_log.specs.Places.{Place, Node, Past, latest, place_by}
 use Rattle.search_log.specs.Pending.{pending}
 use Rattle.search_log.specs.Lawful.{Logged}
-use Rattle.search_log.specs.Sound.{Sound, LeadsOn}
-use Rattle.search_log.specs.LogLaws.{Numbers, lawful_sound, lawful_numbers}
-use Rattle.search_log.specs.NumberLaws.{counters_fit, costs_fit}
-use Rattle.search_log.specs.WaitingLaws.{waiting_leads}
+use Rattle.search_log.proofs.Sound.{Sound, LeadsOn}
+use Rattle.search_log.proofs.LogLaws.{Numbers, lawful_sound, lawful_numbers}
+use Rattle.search_log.proofs.NumberLaws.{counters_fit, costs_fit}
+use Rattle.search_log.proofs.WaitingLaws.{waiting_leads}
 use Rattle.lazy_search.specs.declared.rows.Row.{Row}
 use Rattle.lazy_search.specs.declared.machine.Machine.{Machine}
 use Rattle.lazy_search.specs.Machines.{row_of, visit_at, ListsStand, Keeps, Rests, GoesFrom, Reaches}

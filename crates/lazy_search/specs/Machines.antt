@@ -16,7 +16,7 @@ use Rattle.search_log.specs.Pending.{pending, counter}
 use Rattle.search_log.specs.Lawful.{Logged, GoesOn, result_of, is_called_dead}
 use Rattle.search_log.specs.Ends.{EndsInGoal, EndsExhausted, EndsFull}
 use Rattle.search_log.specs.Guided.{AllFit, TellsDead}
-use Rattle.search_log.specs.CounterLaws.{LeastStand}
+use Rattle.search_log.specs.Counters.{LeastStand}
 use Rattle.search_log.specs.declared.turns.PopResult.TheVariants.{Known as IsKnown, Full as IsFull}
 use Rattle.lazy_search.specs.declared.shape.Shape.{Shape}
 use Rattle.lazy_search.specs.declared.rows.Row.{Row}

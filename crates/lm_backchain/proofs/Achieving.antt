@@ -4,8 +4,8 @@ use Rattle.std.specs.List.{list_all}
 use Rattle.std.proofs.lemmas.Bool.{and_parts, and_from, not-true, not_from_false, both_ways, false_from_ne_true, cases_eq}
 use Rattle.std.proofs.lemmas.List.Folds.{list_all-append}
 use Rattle.std.proofs.lemmas.Option.{same_Some, none-some}
-use Rattle.lama_num.specs.Lists.{list_all_get}
-use Rattle.sas_task.specs.Laws.{start-state, step-by, step-state, operator-at, effect-tests, settled-stays, length-written}
+use Rattle.lama_num.proofs.ListLaws.{list_all_get}
+use Rattle.sas_task.proofs.RunLaws.{start-state, step-by, step-state, operator-at, effect-tests, settled-stays, length-written}
 use Rattle.sas_task.specs.Runs.{start_of, states_of}
 use Rattle.sas_task.specs.States.{IsState, holds, written, step}
 use Rattle.sas_task.specs.WellFormed.{IsWellFormed, is_fact, is_effect, is_derived}
@@ -14,9 +14,9 @@ use Rattle.sas_task.specs.declared.contents.Fact.{Fact}
 use Rattle.sas_task.specs.declared.contents.Operator.{Operator}
 use Rattle.sas_task.specs.declared.contents.Parts.{Parts}
 use Rattle.relaxed_task.specs.Facts.{over_facts}
-use Rattle.relaxed_task.specs.NumberLaws.{fact_within}
-use Rattle.relaxed_task.specs.PlanLaws.{all_has, all_from}
-use Rattle.relaxed_task.specs.ReachLaws.{AllReached, none_hold, are_plain, start_reached, step_reached, gained_reached}
+use Rattle.relaxed_task.proofs.NumberLaws.{fact_within}
+use Rattle.relaxed_task.proofs.PlanLaws.{all_has, all_from}
+use Rattle.relaxed_task.proofs.ReachLaws.{AllReached, none_hold, are_plain, start_reached, step_reached, gained_reached}
 use Rattle.relaxed_task.specs.Reached.{IsReached}
 use Rattle.lm_backchain.specs.Backchain.{has, is_open, conditions_of, IsPossibleFirst}
 use Rattle.lm_backchain.specs.Landmarks.{node_holds, HoldsFirstAt}

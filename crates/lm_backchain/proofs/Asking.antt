@@ -5,13 +5,13 @@ use Rattle.std.specs.List.{list_all}
 use Rattle.std.proofs.lemmas.Bool.{and_parts, and_from, or_cases, or_left, or_right, both_ways, eqb-true}
 use Rattle.std.proofs.lemmas.Option.{same_Some, none-some}
 use Rattle.std.proofs.lemmas.List.{map-append}
-use Rattle.lama_num.specs.Lists.{list_all_get}
+use Rattle.lama_num.proofs.ListLaws.{list_all_get}
 use Rattle.sas_task.specs.WellFormed.{is_fact}
 use Rattle.sas_task.specs.Facts.{same_fact, predicate_of}
 use Rattle.sas_task.specs.declared.contents.Fact.{Fact}
 use Rattle.sas_task.specs.declared.contents.Parts.{Parts}
 use Rattle.relaxed_task.specs.Facts.{facts_equal, over_facts}
-use Rattle.relaxed_task.specs.PlanLaws.{has_append, all_has, all_from}
+use Rattle.relaxed_task.proofs.PlanLaws.{has_append, all_has, all_from}
 use Rattle.lm_graph.specs.Nodes.{is_ascending}
 use Rattle.lm_backchain.specs.Asked.{IsOf, IsFactOf, IsAsked, Collects, AllAsk, IsSetFor, all_have, AddsSet, HasSets, PutsSet, AreFacts}
 use Rattle.lm_backchain.specs.Backchain.{has, is_open, Among, singles, IsPossibleFirst, IsShared, IsOfOnePredicate, GivesGreedy, shared, one_of}

@@ -4,7 +4,7 @@ use Rattle.std.specs.List.{list_any}
 use Rattle.std.proofs.lemmas.Bool.{or_cases, or_left}
 use Rattle.sas_task.specs.Facts.{same_fact}
 use Rattle.sas_task.specs.declared.contents.Fact.{Fact}
-use Rattle.relaxed_task.specs.Elements.{any_at}
+use Rattle.relaxed_task.proofs.Elements.{any_at}
 use Rattle.relaxed_task.specs.Facts.{facts_equal, over_facts}
 use Rattle.lm_backchain.specs.Backchain.{has}
 

@@ -4,8 +4,8 @@ use Rattle.std.specs.List.{list_all}
 use Rattle.std.proofs.lemmas.Bool.{and_parts, or_cases, or_left, or_right, cases_eq, eqb-true}
 use Rattle.std.proofs.lemmas.List.Folds.{list_all-append, list_any-append}
 use Rattle.std.proofs.lemmas.Option.{same_Some, slice_get_within}
-use Rattle.lama_num.specs.Lists.{list_all_get}
-use Rattle.sas_task.specs.Laws.{operator-at, effect-tests, start-state}
+use Rattle.lama_num.proofs.ListLaws.{list_all_get}
+use Rattle.sas_task.proofs.RunLaws.{operator-at, effect-tests, start-state}
 use Rattle.sas_task.specs.Runs.{start_of}
 use Rattle.sas_task.specs.States.{IsState}
 use Rattle.sas_task.specs.declared.contents.CostKind.{CostKind}
@@ -17,7 +17,7 @@ use Rattle.sas_task.specs.declared.contents.Operator.{Operator}
 use Rattle.sas_task.specs.declared.contents.Parts.{Parts}
 use Rattle.relaxed_task.specs.Facts.{over_facts}
 use Rattle.relaxed_task.specs.Numbers.{is_among}
-use Rattle.relaxed_task.specs.PlanLaws.{has_append}
+use Rattle.relaxed_task.proofs.PlanLaws.{has_append}
 use Rattle.relaxed_task.specs.Reached.{IsReached}
 use Rattle.relaxed_task.specs.Relaxations.{IsRelaxed}
 use Rattle.h_add.specs.Values.{Evaluator, IsEvaluated}

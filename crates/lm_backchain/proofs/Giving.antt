@@ -10,10 +10,10 @@ use Rattle.sas_task.specs.declared.contents.Effect.{Effect}
 use Rattle.sas_task.specs.declared.contents.Fact.{Fact}
 use Rattle.sas_task.specs.declared.contents.Operator.{Operator}
 use Rattle.sas_task.specs.declared.contents.Parts.{Parts}
-use Rattle.relaxed_task.specs.Elements.{any_at}
+use Rattle.relaxed_task.proofs.Elements.{any_at}
 use Rattle.relaxed_task.specs.Facts.{over_facts}
 use Rattle.relaxed_task.specs.Numbers.{is_among}
-use Rattle.relaxed_task.specs.PlanLaws.{has_append}
+use Rattle.relaxed_task.proofs.PlanLaws.{has_append}
 use Rattle.lm_graph.specs.declared.fact_table.FactTable.{FactTable}
 use Rattle.lm_graph.specs.FactTables.{numbers_at, AddsNumber}
 use Rattle.lm_backchain.specs.Backchain.{has, gives_one}

@@ -4,15 +4,15 @@ use Rattle.std.specs.List.{list_all}
 use Rattle.std.proofs.lemmas.Bool.{and_from, both_ways, false_from_ne_true}
 use Rattle.std.proofs.lemmas.List.Folds.{list_all-append}
 use Rattle.std.proofs.lemmas.Option.{same_Some}
-use Rattle.lama_num.specs.Lists.{list_all_get, slice_get-append_last}
-use Rattle.sas_task.specs.Laws.{states_of-join, goal-facts, operator-at, effect-tests}
+use Rattle.lama_num.proofs.ListLaws.{list_all_get, slice_get-append_last}
+use Rattle.sas_task.proofs.RunLaws.{states_of-join, goal-facts, operator-at, effect-tests}
 use Rattle.sas_task.specs.Runs.{start_of}
 use Rattle.sas_task.specs.States.{holds}
 use Rattle.sas_task.specs.WellFormed.{IsWellFormed, is_fact, is_effect}
 use Rattle.sas_task.specs.declared.contents.Fact.{Fact}
 use Rattle.sas_task.specs.declared.contents.Parts.{Parts}
 use Rattle.relaxed_task.specs.Facts.{over_facts}
-use Rattle.relaxed_task.specs.PlanLaws.{all_has, all_from}
+use Rattle.relaxed_task.proofs.PlanLaws.{all_has, all_from}
 use Rattle.lm_backchain.specs.Backchain.{has, is_open, conditions_of, IsPossibleFirst, GivesGreedy, shared, one_of, GivesNatural, unreached, IsNode, goal, back}
 use Rattle.lm_backchain.specs.Landmarks.{node_holds, HoldsAt, HoldsFirstAt, Landmark, GreedyNecessary, Natural}
 use Rattle.lm_backchain.proofs.FactLists.{any_has, has_one, has_self}

@@ -7,3 +7,4 @@ pub mod Numbering
 pub mod Places
 pub mod Strengths
 pub mod Turning
+pub mod FloodLaws

@@ -11,7 +11,8 @@ use Rattle.lm_graph.specs.Orders.{is_strong}
 use Rattle.lm_graph.specs.Rows.{kind_in, past_end, IsAscending}
 use Rattle.lm_graph.specs.Graphs.{row_of}
 use Rattle.lm_graph.specs.Paths.{Path, one, more}
-use Rattle.lm_graph.specs.Marks.{is_seen, takes, is_taken, InStep, Marks, kinds_in, AreWithin, Floods}
+use Rattle.lm_graph.specs.Marks.{is_seen, takes, is_taken, InStep, Marks, kinds_in, AreWithin}
+use Rattle.lm_graph.proofs.FloodLaws.{Floods}
 use Rattle.lm_graph.proofs.Lists.{get_set_here, get_set_other, push_get, get_front, front_get, get_last}
 use Rattle.lm_graph.proofs.Strengths.{taken-strong, kind_at_place}
 

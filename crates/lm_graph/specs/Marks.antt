@@ -6,7 +6,6 @@ use Rattle.lm_graph.specs.declared.orders.Edge.{Edge}
 use Rattle.lm_graph.specs.Orders.{is_strong}
 use Rattle.lm_graph.specs.Rows.{kind_in}
 use Rattle.lm_graph.specs.Graphs.{row_of}
-use Rattle.lm_graph.specs.Paths.{Path}
 
 abbrev pub is_seen : List Bool → ℕ → Bool
 is_seen seen i = unwrap_or (slice_get seen i) false
@@ -40,11 +39,3 @@ kinds_in rows before after = kind_in (row_of rows after) before
 -- orders come from numbers of rows
 pub record AreWithin (rows : List (List Edge)) : Type 0 where
   pub each : (i j : ℕ) (kind : Order) → kinds_in rows i j ≡ Some kind → i < length rows
-
--- The numbers that lead to the last one are marked, as far as the list was gone through.
-pub record Floods (rows : List (List Edge)) (weakest : Order) (last : ℕ) (seen : List Bool) (queue : List ℕ) (place : ℕ) : Type 0 where
-  pub in_step : InStep seen queue
-  pub long : length seen ≡ length rows
-  pub sound : (i : ℕ) → is_seen seen i ≡ true → Path (kinds_in rows) weakest i last
-  pub first : (i : ℕ) → is_strong weakest (kinds_in rows i last) ≡ true → is_seen seen i ≡ true
-  pub expanded : (q i j : ℕ) → q < place → slice_get queue q ≡ Some j → is_strong weakest (kinds_in rows i j) ≡ true → is_seen seen i ≡ true

@@ -4,7 +4,7 @@ use Rattle.std.specs.Prelude.{if◌then◌else◌}
 use Rattle.std.specs.List.{list_all}
 use Rattle.std.proofs.lemmas.Bool.Decides.{nat_tests}
 use Rattle.std.proofs.lemmas.List.{take-append-le, drop-append-le}
-use Rattle.lama_num.specs.Lists.{both}
+use Rattle.lama_num.proofs.ListLaws.{both}
 use Rattle.open_lists.specs.Runs.{entry_of, entries_of_visit, entries_in, total, AreRunsOf, parent_of, less_one}
 use Rattle.open_lists.specs.declared.entry.Entry.{Entry}
 use Rattle.open_lists.specs.declared.runs.Run.{Run}

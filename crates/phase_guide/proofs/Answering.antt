@@ -17,7 +17,7 @@ use Rattle.bit_rows.specs.Rows.{has}
 use Rattle.lm_status.specs.Rows.{StandsFor}
 use Rattle.guide.specs.declared.seen.Seen.{Seen}
 use Rattle.guide.specs.Operators.{applicable_operators, is_among}
-use Rattle.guide.specs.OperatorLaws.{kept_among, none_preferred}
+use Rattle.guide.proofs.OperatorLaws.{kept_among, none_preferred}
 use Rattle.phase_guide.specs.declared.kinds.Values.{Values}
 use Rattle.phase_guide.specs.declared.relaxing.RelaxedCosts.{RelaxedCosts}
 use Rattle.phase_guide.specs.declared.relaxing.Relaxing.{Relaxing}

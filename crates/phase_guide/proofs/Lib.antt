@@ -5,3 +5,4 @@ pub mod Sublists
 pub mod Taking
 pub mod Telling
 pub mod Unions
+pub mod LastStates

@@ -1,9 +1,9 @@
 -- What evaluators answer is what is told of a state.
 use Rattle.std.proofs.Common.{◌≡◌, sym, subst, refl, ℕ, List, [], filter, ◌⊎◌, ◌↔◌, inl, inr, Option, Some, None, IfSome, IfNone, length}
-use Rattle.lama_num.specs.Lists.{list_all_get}
+use Rattle.lama_num.proofs.ListLaws.{list_all_get}
 use Rattle.lama_num.specs.declared.estimates.Estimate.{Estimate}
 use Rattle.lama_num.specs.declared.estimates.Estimate.TheVariants.{Finite, Infinite}
-use Rattle.sas_task.specs.Laws.{applicable-within, goal-facts}
+use Rattle.sas_task.proofs.RunLaws.{applicable-within, goal-facts}
 use Rattle.sas_task.specs.States.{is_applicable}
 use Rattle.sas_task.specs.WellFormed.{IsWellFormed, is_fact}
 use Rattle.sas_task.specs.declared.contents.CostKind.{CostKind}
@@ -14,7 +14,7 @@ use Rattle.h_add.specs.Values.{Evaluator, IsValueOfGoals}
 use Rattle.h_ff.specs.Ready.{Planner}
 use Rattle.h_ff.specs.RelaxedPlans.{IsFf, HasPlan}
 use Rattle.guide.specs.Operators.{applicable_operators, is_among}
-use Rattle.guide.specs.OperatorLaws.{none_preferred}
+use Rattle.guide.proofs.OperatorLaws.{none_preferred}
 use Rattle.phase_guide.specs.declared.relaxing.Relaxing.{Relaxing}
 use Rattle.phase_guide.specs.declared.relaxing.Relaxing.TheVariants.{Nothing, Additive, Planning}
 use Rattle.phase_guide.specs.declared.relaxing.RelaxedCosts.{RelaxedCosts}

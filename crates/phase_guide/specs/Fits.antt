@@ -1,7 +1,6 @@
 -- Which answers of a phase's guide fit which path.
-use Rattle.std.specs.Prelude.{◌≡◌, ℕ, List, [], ◌∷◌, ◌++◌, Bool, true, false, ◌⊎◌, filter, map}
+use Rattle.std.specs.Prelude.{◌≡◌, ℕ, List, [], ◌∷◌, Bool, true, false, ◌⊎◌, filter, map}
 use Rattle.std.specs.List.{list_any}
-use Rattle.std.proofs.Common.{refl}
 use Rattle.lama_num.specs.declared.estimates.Estimate.TheVariants.{Finite}
 use Rattle.sas_task.specs.declared.contents.CostKind.{CostKind}
 use Rattle.sas_task.specs.declared.contents.Parts.{Parts}
@@ -66,11 +65,6 @@ abbrev pub last_of : List (List ℕ) → List ℕ
 last_of [] = []
 last_of (state ∷ []) = state
 last_of (state ∷ other ∷ states) = last_of (other ∷ states)
-
-pub last_more : (states : List (List ℕ)) (state : List ℕ) → last_of (states ++ state ∷ []) ≡ state
-last_more [] state = refl
-last_more (one ∷ []) state = refl
-last_more (one ∷ other ∷ states) state = last_more (other ∷ states) state
 
 -- An answer fits a path, given as its states, by a graph of landmarks: it speaks of the last state.
 pub record Fits (parts : Parts) (phase : Phase) (graph : Content) (states : List (List ℕ)) (seen : Seen) : Type 0 where

@@ -4,7 +4,7 @@ use Rattle.std.specs.Prelude.{slice_get, slice_index, option_and_then, unwrap_or
 use Rattle.std.specs.List.{find, flat_map}
 use Rattle.std.proofs.lemmas.Slice.Eq.{bytes_eq-Decides}
 use Rattle.std.proofs.lemmas.Option.{slice_get_within}
-use Rattle.lama_num.specs.Lists.{both}
+use Rattle.lama_num.proofs.ListLaws.{both}
 use Rattle.sas_task.specs.declared.contents.Operator.{Operator}
 use Rattle.sas_task.specs.declared.contents.Parts.{Parts}
 use Rattle.sas_task.specs.States.{all_hold, step}

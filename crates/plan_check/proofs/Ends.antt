@@ -6,18 +6,19 @@ use Rattle.std.specs.Str.{bytes_eq}
 use Rattle.std.proofs.lemmas.Bool.Decides.{nat_tests}
 use Rattle.std.proofs.lemmas.Grind.{flat_map-append}
 use Rattle.std.proofs.lemmas.Slice.Eq.{bytes_eq-Decides}
-use Rattle.lama_num.specs.Lists.{both}
+use Rattle.lama_num.proofs.ListLaws.{both}
 use Rattle.sas_task.specs.declared.contents.Operator.{Operator}
 use Rattle.sas_task.specs.declared.contents.Parts.{Parts}
 use Rattle.sas_task.specs.WellFormed.{IsWellFormed}
 use Rattle.sas_task.specs.States.{IsState, all_hold, step}
 use Rattle.sas_task.specs.Runs.{start_of, cost_at, cost_of}
-use Rattle.sas_task.specs.Laws.{start-state, step-state, cost_of-append, cost_at-small}
+use Rattle.sas_task.proofs.RunLaws.{start-state, step-state, cost_of-append, cost_at-small}
 use Rattle.state_step.specs.Steps.{is_applicable}
 use Rattle.plan_check.specs.Choices.{has_name, is_candidate, candidates, state_after, choices_from, choices}
 use Rattle.plan_check.specs.Verdicts.{state_by, last_state, same_end, ends}
 use Rattle.packed_state.specs.Packing.{Places}
-use Rattle.plan_check.specs.Layers.{IsEnd, pair_words, end_words, longer, one_more, one_each}
+use Rattle.plan_check.specs.Layers.{IsEnd, pair_words, end_words, longer, one_each}
+use Rattle.plan_check.proofs.LayerLaws.{one_more}
 use Rattle.plan_check.proofs.Firsts.{IsByKind, firsts-flat_map}
 use Rattle.plan_check.proofs.Naming.{candidates_in, drop_at}
 

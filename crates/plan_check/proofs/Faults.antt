@@ -7,7 +7,7 @@ use Rattle.std.specs.Option.{option_or, option_map_or}
 use Rattle.std.proofs.lemmas.Bool.Decides.{nat_tests}
 use Rattle.std.proofs.lemmas.Bool.{cases_eq}
 use Rattle.std.proofs.lemmas.List.{length-map}
-use Rattle.lama_num.specs.Lists.{both, slice_get-append_last}
+use Rattle.lama_num.proofs.ListLaws.{both, slice_get-append_last}
 use Rattle.sas_task.specs.declared.contents.Parts.{Parts}
 use Rattle.sas_task.specs.WellFormed.{IsWellFormed}
 use Rattle.sas_task.specs.States.{step}
@@ -18,7 +18,8 @@ use Rattle.plan_check.specs.declared.verdicts.PlanFault.TheVariants.{NoOperator,
 use Rattle.plan_check.specs.declared.tracing.Link.{Link}
 use Rattle.plan_check.specs.Choices.{has_name, candidates}
 use Rattle.plan_check.specs.Verdicts.{last_state, ends, pairs_after, pairs_up_to, has_operator, are_many, fault_after, first_fault}
-use Rattle.plan_check.specs.Layers.{pair_words, end_words, Leads, IsLayer, IsGrown, IsAfter, IsAlone, longer, one_more, one_each, told_fault}
+use Rattle.plan_check.specs.Layers.{pair_words, end_words, Leads, IsLayer, IsGrown, IsAfter, IsAlone, longer, one_each, told_fault}
+use Rattle.plan_check.proofs.LayerLaws.{one_more}
 use Rattle.state_step.specs.Steps.{is_applicable}
 use Rattle.plan_check.proofs.Ends.{choices-step, ends-step, candidates-applicable, more-none, last_state-state, end_more, words_at_end}
 use Rattle.plan_check.proofs.Leading.{leads_more}

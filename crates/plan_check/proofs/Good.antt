@@ -3,7 +3,7 @@ use Rattle.std.proofs.Common.{◌≡◌, ◌∙◌, ap, refl, sym, subst, arith,
 use Rattle.std.specs.Prelude.{IfSome, not, if◌then◌else◌}
 use Rattle.std.proofs.lemmas.Bool.Decides.{nat_tests}
 use Rattle.lama_num.specs.Gives.{◌>>=◌}
-use Rattle.lama_num.specs.Lists.{both}
+use Rattle.lama_num.proofs.ListLaws.{both}
 use Rattle.sas_task.specs.declared.contents.Parts.{Parts}
 use Rattle.sas_task.specs.Runs.{IsPlan, start_of, is_goal, cost_of}
 use Rattle.sas_task.specs.Costs.{is_unit_cost}

@@ -8,7 +8,7 @@ use Rattle.std.proofs.lemmas.Grind.{flat_map-append}
 use Rattle.std.proofs.lemmas.List.{length-map, map-append, take-append-drop, take_all}
 use Rattle.std.proofs.lemmas.Option.{slice_get-map, slice_get_within, slice_get_read}
 use Rattle.std.proofs.lemmas.Slice.Eq.{bytes_eq-Decides}
-use Rattle.lama_num.specs.Lists.{slice_get-append_last}
+use Rattle.lama_num.proofs.ListLaws.{slice_get-append_last}
 use Rattle.sas_task.specs.declared.contents.Parts.{Parts}
 use Rattle.sas_task.specs.WellFormed.{IsWellFormed}
 use Rattle.sas_task.specs.States.{IsState, step}
@@ -16,7 +16,8 @@ use Rattle.sas_task.specs.Runs.{cost_at, cost_of}
 use Rattle.packed_state.specs.Packing.{Places, IsFor, CanHold, packed}
 use Rattle.plan_check.specs.Verdicts.{last_state, same_end, ends, pairs_after}
 use Rattle.plan_check.specs.Choices.{candidates}
-use Rattle.plan_check.specs.Layers.{pair_words, end_words, Leads, LeadOn, AreEnds, IsLayer, IsGrowing, IsGrown, IsEnd, EndsAt, longer, one_more, one_each}
+use Rattle.plan_check.specs.Layers.{pair_words, end_words, Leads, LeadOn, AreEnds, IsLayer, IsGrowing, IsGrown, IsEnd, EndsAt, longer, one_each}
+use Rattle.plan_check.proofs.LayerLaws.{one_more}
 use Rattle.plan_check.specs.declared.tracing.Link.{Link}
 use Rattle.plan_check.proofs.Ends.{by_kind, kind_of, last_state-state, end_more, words_at_end, cost_of-small, take_more, ends-step}
 use Rattle.plan_check.proofs.Firsts.{firsts_more, firsts_fewer}

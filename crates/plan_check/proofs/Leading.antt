@@ -3,7 +3,7 @@ use Rattle.std.proofs.Common.{◌≡◌, ◌∙◌, sym, ap, subst, ℕ, zero, s
 use Rattle.std.proofs.lemmas.List.{reverse-append}
 use Rattle.std.specs.Prelude.{slice_get, if◌then◌else◌}
 use Rattle.std.proofs.lemmas.Option.{slice_get_within}
-use Rattle.lama_num.specs.Lists.{slice_get-append_front}
+use Rattle.lama_num.proofs.ListLaws.{slice_get-append_front}
 use Rattle.plan_check.specs.Layers.{Leads}
 use Rattle.plan_check.specs.declared.tracing.Link.{Link}
 

@@ -11,3 +11,4 @@ pub mod Naming
 pub mod Reaching
 pub mod Telling
 pub mod Vectors
+pub mod LayerLaws

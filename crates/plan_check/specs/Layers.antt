@@ -6,7 +6,7 @@ use Rattle.std.specs.declared.alloc.Global.{Global}
 use Rattle.sas_task.specs.declared.contents.Parts.{Parts}
 use Rattle.sas_task.specs.Runs.{cost_of}
 use Rattle.packed_state.specs.Packing.{Places, packed}
-use Rattle.plan_check.specs.Choices.{has_name, candidates, choices}
+use Rattle.plan_check.specs.Choices.{has_name, choices}
 use Rattle.plan_check.specs.Verdicts.{last_state, same_end, firsts_after, ends, pairs_up_to, first_fault}
 use Rattle.plan_check.specs.Refusals.{fault_of}
 use Rattle.plan_check.specs.declared.refusals.Refusal.{Refusal}
@@ -46,10 +46,6 @@ pub record IsLayer (parts : Parts) (layout : Places) (links : List Link) (first 
 -- a choice with each of some operators at its end
 abbrev pub longer : List ℕ → List ℕ → List (List ℕ)
 longer ops more = map (λ op. ops ++ op ∷ []) more
-
--- a choice with each operator that can be taken for a name
-abbrev pub one_more : Parts → List ℕ → List ℕ → List (List ℕ)
-one_more parts name ops = longer ops (candidates parts (last_state parts ops) name)
 
 -- the first choices of a list, one for each pair of last state and cost
 abbrev pub one_each : Parts → List (List ℕ) → List (List ℕ)

@@ -3,11 +3,11 @@ use Rattle.std.proofs.Common.{◌≡◌, ◌≢◌, ◌∙◌, sym, ap, refl, su
 use Rattle.std.proofs.Math.Seq.{take-length}
 use Rattle.std.specs.Prelude.{unwrap_or}
 use Rattle.std.specs.FinMap.{get, insert}
-use Rattle.lama_host.specs.Files.{get-insert_same, get-insert_other}
+use Rattle.lama_host.proofs.FileLaws.{get-insert_same, get-insert_other}
 use Rattle.lama_host.specs.Folder.{Told, Files, Changes, Once, Appends, growth, grown, bytes_at, last_of}
-use Rattle.lama_host.specs.Laws.{last_of-growth}
+use Rattle.lama_host.proofs.AppendLaws.{last_of-growth}
 use Rattle.plan_manager.specs.Keeping.{IsFront, IsDraft, Drafts}
-use Rattle.lama_host.specs.StepLaws.{each-append, each_once, last_of-append, last_once, changes_then, changes_weaker}
+use Rattle.lama_host.proofs.StepLaws.{each-append, each_once, last_of-append, last_once, changes_then, changes_weaker}
 use Rattle.lama_host.specs.Steps.{Each}
 use Rattle.plan_manager.proofs.Removing.{nothing_ok}
 

@@ -6,3 +6,6 @@ pub mod Placing
 pub mod Fronts
 pub mod Lengths
 pub mod Stages
+pub mod CallLaws
+pub mod FamilyLaws
+pub mod Moments

@@ -3,11 +3,11 @@ use Rattle.std.proofs.Common.{◌≡◌, ◌≢◌, ◌∙◌, sym, ap, subst, r
 use Rattle.std.specs.FinMap.{get, insert, remove}
 use Rattle.lama_num.specs.Names.{part_name}
 use Rattle.plan_manager.specs.Family.{family_name}
-use Rattle.plan_manager.specs.FamilyLaws.{family≢part}
-use Rattle.lama_host.specs.Files.{get-insert_same, get-insert_other, get-remove_same, get-remove_other}
+use Rattle.plan_manager.proofs.FamilyLaws.{family≢part}
+use Rattle.lama_host.proofs.FileLaws.{get-insert_same, get-insert_other, get-remove_same, get-remove_other}
 use Rattle.lama_host.specs.Folder.{Told, Files, WhereTold, Changes, Keeps, Once, renamed, last_of}
 use Rattle.plan_manager.specs.Keeping.{Drafts, IsPlaced, Places}
-use Rattle.lama_host.specs.StepLaws.{changes_then, changes_weaker, told_before}
+use Rattle.lama_host.proofs.StepLaws.{changes_then, changes_weaker, told_before}
 use Rattle.plan_manager.proofs.Removing.{nothing_ok}
 
 on_err : {T E : Type 0} (result : Result T E) (P : Type 0) → P → OnErr result P

@@ -1,13 +1,13 @@
 -- Names that are taken away, one by one.
 use Rattle.std.proofs.Common.{◌≡◌, ◌∙◌, refl, subst, ℕ, ◌+◌, ◌≤◌, ◌<◌, List, None, Result, Ok, Err, OnOk, IsErr, ◌⊎◌, inl, inr, arith}
 use Rattle.std.specs.FinMap.{get, remove}
-use Rattle.lama_host.specs.Files.{get-remove_same}
+use Rattle.lama_host.proofs.FileLaws.{get-remove_same}
 use Rattle.lama_host.specs.Folder.{Told, Files, Changes, Once, last_of}
 use Rattle.lama_num.specs.Names.{part_name}
 use Rattle.plan_manager.specs.Clearing.{TakesPlan, TakesOne, IsCleared, Clears, ClearsFamily, TakesBetween, HasNoneBetween, ClearsBetween}
-use Rattle.plan_manager.specs.Laws.{held_or_gone}
+use Rattle.plan_manager.proofs.CallLaws.{held_or_gone}
 use Rattle.plan_manager.specs.Family.{family_name}
-use Rattle.lama_host.specs.StepLaws.{each-append, each-weaker, each-whole, last_of-append, each_once, last_once, changes_then, changes_weaker, changes_none}
+use Rattle.lama_host.proofs.StepLaws.{each-append, each-weaker, each-whole, last_of-append, each_once, last_once, changes_then, changes_weaker, changes_none}
 use Rattle.lama_host.specs.Steps.{Each}
 
 pub removed_as : {T E : Type 0} (a b : Told) (result : Result T E) (name other : List ℕ) → name ≡ other → Changes a b (Once result (λ files. remove files name)) → Changes a b (Once result (λ files. remove files other))

@@ -2,7 +2,7 @@
 use Rattle.std.proofs.Common.{◌≡◌, ◌≢◌, ◌∙◌, sym, ap, refl, subst, ℕ, zero, suc, ◌+◌, ◌<◌, ◌≤◌, List, [], ◌∷◌, ◌++◌, length, Bool, true, false, if◌then◌else◌, Some, None, Result, Ok, Err, IsErr, ◌⊎◌, inl, inr, arith, ◌-◌, append-nil}
 use Rattle.std.specs.Prelude.{slice_get, option_map}
 use Rattle.std.specs.FinMap.{get, remove}
-use Rattle.lama_host.specs.Files.{get-remove_same}
+use Rattle.lama_host.proofs.FileLaws.{get-remove_same}
 use Rattle.lama_host.specs.Folder.{Told, Files, WhereTold, Changes, Once, IsUntouched, last_of}
 use Rattle.lama_num.specs.Names.{part_name}
 use Rattle.sas_task.specs.declared.contents.Parts.{Parts}
@@ -11,10 +11,10 @@ use Rattle.plan_text.specs.PlanText.{plan_text}
 use Rattle.plan_manager.specs.Clearing.{TakesBetween, ClearsBetween}
 use Rattle.plan_manager.specs.Family.{family_name}
 use Rattle.plan_manager.specs.Keeping.{IsDraft, IsPlacedLast, Places}
-use Rattle.plan_manager.specs.Laws.{drafts_beside, sealing_leaves}
-use Rattle.plan_manager.specs.FamilyLaws.{family≢part}
+use Rattle.plan_manager.proofs.CallLaws.{drafts_beside, sealing_leaves}
+use Rattle.plan_manager.proofs.FamilyLaws.{family≢part}
 use Rattle.plan_manager.specs.Sealing.{plan_at, text_at, SealStep, Draft, Place, Take, TakePart, Seals, SealsBetween, Rewrites}
-use Rattle.lama_host.specs.StepLaws.{each-append, each-weaker, each_once, last_of-append, changes_none, changes_then, changes_weaker}
+use Rattle.lama_host.proofs.StepLaws.{each-append, each-weaker, each_once, last_of-append, changes_none, changes_then, changes_weaker}
 use Rattle.lama_host.specs.Steps.{Each}
 use Rattle.plan_manager.proofs.Removing.{nothing_ok}
 

@@ -3,7 +3,7 @@ use Rattle.std.specs.Prelude.{◌≡◌, ℕ, ◌≤◌, ◌<◌, List, Result, 
 use Rattle.std.specs.FinMap.{get, remove}
 use Rattle.lama_host.specs.Folder.{Files, last_of}
 use Rattle.lama_num.specs.Names.{part_name}
-use Rattle.plan_manager.specs.Family.{family_name, SameBeside, SameOutside}
+use Rattle.plan_manager.specs.Family.{family_name}
 use Rattle.lama_host.specs.Steps.{Each}
 
 -- one name of the family is taken away
@@ -30,20 +30,6 @@ ClearsFamily result base files steps = Each (TakesPlan base) files steps × OnOk
 -- The same of the family and base.part.
 abbrev pub Clears : {T E : Type 0} → Result T E → List ℕ → Files → List Files → Type 0
 Clears result base files steps = Each (TakesOne base) files steps × OnOk result (IsCleared base (last_of files steps))
-
--- a name holds what it held, or is gone
-abbrev pub IsHeldOrGone : Files → Files → List ℕ → Type 0
-IsHeldOrGone before after name = (get after name ≡ get before name) ⊎ (get after name ≡ None)
-
--- What stands where a family was cleared, and where clearing it failed.
-pub record LeftByClearingFamily (base : List ℕ) (before after : Files) : Type 0 where
-  pub each : (name : List ℕ) → IsHeldOrGone before after name
-  pub beside : SameBeside base before after
-
--- What stands where a family and base.part were cleared, and where clearing them failed.
-pub record LeftByClearing (base : List ℕ) (before after : Files) : Type 0 where
-  pub each : (name : List ℕ) → IsHeldOrGone before after name
-  pub outside : SameOutside base before after
 
 -- one of the names from one number up to another is taken away
 abbrev pub TakesBetween : List ℕ → ℕ → ℕ → Files → Files → Type 0

@@ -20,10 +20,6 @@ file_name (Numbered name) = name
 abbrev pub IsNoPlan : List ℕ → List ℕ → Type 0
 IsNoPlan base name = (k : ℕ) → k ≤ 9999 → name ≢ family_name base k
 
--- all names but those of the family hold what they held
-abbrev pub SameBeside : List ℕ → Files → Files → Type 0
-SameBeside base before after = (name : List ℕ) → IsNoPlan base name → get after name ≡ get before name
-
 -- all names but those of the family and base.part hold what they held
 abbrev pub SameOutside : List ℕ → Files → Files → Type 0
 SameOutside base before after = (name : List ℕ) → IsNoPlan base name → name ≢ part_name base → get after name ≡ get before name

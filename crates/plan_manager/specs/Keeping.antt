@@ -37,11 +37,6 @@ Places result draft target text files steps =
     × OnOk result (IsPlacedLast draft target text files drafts steps)
     × OnErr result ((steps ≡ drafts) ⊎ IsPlacedLast draft target text files drafts steps)
 
--- What stands after a text was to be placed: the target holds what it held or the whole text.
-pub record LeftByPlacing (draft target text : List ℕ) (before after : Files) : Type 0 where
-  pub holds : (get after target ≡ get before target) ⊎ (get after target ≡ Some text)
-  pub others : (other : List ℕ) → other ≢ draft → other ≢ target → get after other ≡ get before other
-
 -- the number, in the family, of the plan with a number from 1: without many it is the base itself
 abbrev pub plan_number : Bool → ℕ → ℕ
 plan_number many number = if many then number else 0

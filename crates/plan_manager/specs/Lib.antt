@@ -1,9 +1,6 @@
 pub mod Clearing
 pub mod Comparing
 pub mod Family
-pub mod FamilyLaws
 pub mod Keeping
-pub mod Laws
-pub mod Moments
 pub mod Sealing
 pub mod TextRests

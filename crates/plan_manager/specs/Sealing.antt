@@ -6,7 +6,7 @@ use Rattle.lama_num.specs.Names.{part_name}
 use Rattle.sas_task.specs.declared.contents.Parts.{Parts}
 use Rattle.sas_task.specs.declared.plans.Kept.{Kept}
 use Rattle.plan_text.specs.PlanText.{plan_text}
-use Rattle.plan_manager.specs.Family.{family_name, SameOutside}
+use Rattle.plan_manager.specs.Family.{family_name}
 use Rattle.plan_manager.specs.Keeping.{IsDraft, IsPlaced, Places}
 use Rattle.lama_host.specs.Steps.{Each}
 
@@ -41,12 +41,6 @@ pub data SealStep (base : List ℕ) (many : Bool) (task : Parts) (kept : List Ke
 -- Such steps; where no call failed, the folder holds just the plans in the end.
 abbrev pub Seals : {T E : Type 0} → Result T E → List ℕ → Bool → Parts → List Kept → Files → List Files → Type 0
 Seals result base many task kept files steps = Each (SealStep base many task kept) files steps × OnOk result (HoldsPlans (last_of files steps) base many task kept)
-
--- What stands after sealing, and where it failed: each name of the family holds what it held, or its plan's text (a
--- name without a plan: nothing).
-pub record LeftBySealing (base : List ℕ) (many : Bool) (task : Parts) (kept : List Kept) (before after : Files) : Type 0 where
-  pub family : (k : ℕ) → k ≤ 9999 → (get after (family_name base k) ≡ get before (family_name base k)) ⊎ (get after (family_name base k) ≡ text_at many task kept k)
-  pub outside : SameOutside base before after
 
 -- A text is placed where the target doesn't hold it.
 abbrev pub Rewrites : {T E : Type 0} → Result T E → List ℕ → List ℕ → List ℕ → Files → List Files → Type 0

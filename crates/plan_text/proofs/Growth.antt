@@ -7,7 +7,7 @@ use Rattle.std.specs.Prelude.{slice_get}
 use Rattle.sas_task.specs.declared.contents.Operator.{Operator}
 use Rattle.sas_task.specs.declared.contents.Parts.{Parts}
 use Rattle.sas_task.specs.Runs.{cost_at, cost_of}
-use Rattle.sas_task.specs.Laws.{cost_of-append}
+use Rattle.sas_task.proofs.RunLaws.{cost_of-append}
 use Rattle.plan_text.specs.PlanText.{step_line, name_at}
 
 abbrev pub steps_text : Parts → List ℕ → List ℕ

@@ -8,11 +8,12 @@ use Rattle.std.specs.Str.{bytes_eq, all_ascii_digits}
 use Rattle.std.proofs.lemmas.Bool.Decides.{nat_tests}
 use Rattle.std.proofs.lemmas.List.{reverse-append, reverse-reverse}
 use Rattle.std.proofs.lemmas.Slice.Eq.{bytes_eq-Decides}
-use Rattle.lama_num.specs.Lists.{both}
+use Rattle.lama_num.proofs.ListLaws.{both}
 use Rattle.lama_num.specs.Decimals.{is_decimal, decimal_of}
-use Rattle.lama_num.specs.DecimalLaws.{decimal_of-decimal, decimal_of_some}
+use Rattle.lama_num.proofs.DecimalLaws.{decimal_of-decimal, decimal_of_some}
 use Rattle.text_lines.specs.Lines.{lines_of, trimmed}
-use Rattle.text_lines.specs.Laws.{has_no_feed, cut_lines-feed, trimmed-bare, begins_bare-reverse}
+use Rattle.text_lines.specs.Texts.{has_no_feed}
+use Rattle.text_lines.proofs.LineLaws.{cut_lines-feed, trimmed-bare, begins_bare-reverse}
 use Rattle.sas_task.specs.declared.contents.Parts.{Parts}
 use Rattle.sas_task.specs.Costs.{is_unit_cost}
 use Rattle.sas_task.specs.Runs.{cost_of}

@@ -8,9 +8,10 @@ use Rattle.std.proofs.Math.Seq.{take-append_seam, drop-append_seam}
 use Rattle.std.proofs.lemmas.Bool.{eqb-true}
 use Rattle.std.proofs.lemmas.List.{reverse-append, reverse-reverse}
 use Rattle.std.proofs.lemmas.Str.{IsUtf8-take, IsUtf8-drop, IsUtf8-from_is_utf8, is_utf8-from_IsUtf8, IsCharBoundary-before_ascii, IsCharBoundary-after_ascii}
-use Rattle.lama_num.specs.Lists.{both}
+use Rattle.lama_num.proofs.ListLaws.{both}
 use Rattle.text_lines.specs.Lines.{cut_lines, onto, is_margin, without_left, trimmed, lines_of}
-use Rattle.text_lines.specs.Laws.{has_no_feed, cut_lines-feed}
+use Rattle.text_lines.specs.Texts.{has_no_feed}
+use Rattle.text_lines.proofs.LineLaws.{cut_lines-feed}
 use Rattle.portfolio_text.specs.PortfolioText.{is_plain}
 
 -- the byte behind a front

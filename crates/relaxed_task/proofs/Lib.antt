@@ -1,3 +1,11 @@
 pub mod Marks
 pub mod More
 pub mod Numbering
+pub mod CostLaws
+pub mod Elements
+pub mod EstimateLaws
+pub mod NumberLaws
+pub mod NumberingLaws
+pub mod PlanLaws
+pub mod ReachLaws
+pub mod RelaxingLaws

@@ -5,7 +5,7 @@ use Rattle.std.proofs.Common.{arith, refl, sym, ap, ◌∙◌, append_assoc, ◌
 use Rattle.std.proofs.lemmas.Bool.Decides.{nat_tests}
 use Rattle.std.proofs.lemmas.List.Elements.{filter-append}
 use Rattle.sas_task.specs.declared.contents.Fact.{Fact}
-use Rattle.relaxed_task.specs.Elements.{places}
+use Rattle.relaxed_task.proofs.Elements.{places}
 use Rattle.relaxed_task.specs.Numbers.{distinct, number_by, is_below, is_among}
 use Rattle.relaxed_task.specs.Making.{is_marked, AreMarked, with_one, with_all, all_numbers_by}
 

@@ -1,16 +1,9 @@
 pub mod AdditiveCosts
-pub mod CostLaws
-pub mod Elements
-pub mod EstimateLaws
 pub mod Estimates
 pub mod Facts
 pub mod Making
-pub mod NumberLaws
-pub mod NumberingLaws
 pub mod Numbers
-pub mod PlanLaws
 pub mod Plans
-pub mod ReachLaws
 pub mod Reached
 pub mod Relaxations
 pub mod Relaxing

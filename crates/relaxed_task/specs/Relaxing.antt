@@ -29,10 +29,6 @@ abbrev pub in_round : {F : Type 0} → ((F → Bool) → F → Bool) → (F → 
 in_round given start out zero fact = start fact && not (out fact)
 in_round given start out (suc n) fact = in_round given start out n fact || (given (in_round given start out n) fact && not (out fact))
 
--- given by a unary operator whose conditions are reached
-abbrev pub is_given_by : {F U : Type 0} → UnaryOver F U → List U → (F → Bool) → F → Bool
-is_given_by o unaries reached fact = list_any (λ u. o.same (o.gives u) fact && list_all reached (o.conds u)) unaries
-
 -- the sum of what facts cost
 abbrev pub sum_of : {F : Type 0} → (F → Estimate) → List F → Estimate
 sum_of costs [] = Finite 0

@@ -12,7 +12,8 @@ use Rattle.std.specs.FinSet as set
 use Rattle.std.specs.FinSet.{contains-from_list_nat}
 use Rattle.std.proofs.lemmas.List.Elements.{All-head}
 use Rattle.std.proofs.lemmas.Bool.Decides.{Decides-ltb}
-use Rattle.exit_codes.specs.Parts.{codes_of, part_codes, contains-codes_of}
+use Rattle.exit_codes.specs.Parts.{codes_of, part_codes}
+use Rattle.exit_codes.proofs.PartLaws.{contains-codes_of}
 use Rattle.exit_codes.specs.Combined.{combine_of, codes_between, single_critical, code_of_limits}
 use Rattle.driver_core.specs.declared.settings.Setting.{Setting}
 use Rattle.driver_core.specs.Settings.{most_plans}

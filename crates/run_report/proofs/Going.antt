@@ -15,7 +15,7 @@ use Rattle.driver_core.specs.Keeping.{kept_costs, is_below, bound_of}
 use Rattle.driver_core.specs.Standing.{StandsFor}
 use Rattle.driver_core.specs.States.{CoreState}
 use Rattle.driver_core.specs.Turns.{Turn, turn_of, begins_at, offers}
-use Rattle.driver_core.specs.Laws.{kept_costs-push_other}
+use Rattle.driver_core.proofs.OneMoreEvent.{kept_costs-push_other}
 use Rattle.run_report.specs.declared.report.EntryEnd.{EntryEnd}
 use Rattle.run_report.specs.Turns.{BegunTurn, ToldTurn, begun_at, begun_of, offered_more, good_offer, candidate_of, offer_of, end_of, events_in, turn_events, turns_events, plans_of, candidates_of, EachTurn}
 use Rattle.run_report.specs.Tells.{between, during, events_of, all_begun}

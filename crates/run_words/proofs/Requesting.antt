@@ -4,7 +4,7 @@ use Rattle.std.specs.Prelude.{codes, if◌then◌else◌, is_some, IfSome, nat_l
 use Rattle.std.specs.List.{IsLastAndRest}
 use Rattle.std.proofs.Math.Seq.{take-append_seam}
 use Rattle.lama_num.specs.Decimals.{decimal_of}
-use Rattle.lama_num.specs.Lists.{slice_get-append_last}
+use Rattle.lama_num.proofs.ListLaws.{slice_get-append_last}
 use Rattle.portfolio_text.specs.AliasNames.{alias_of}
 use Rattle.portfolio_text.specs.declared.aliases.AliasName.{AliasName}
 use Rattle.run_words.specs.Accepted.{FitsWork, IsAccepted, IsBase, IsLimit, IsMade, IsMemory}

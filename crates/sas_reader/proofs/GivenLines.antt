@@ -4,9 +4,9 @@ use Rattle.std.specs.Prelude.{option_to_list, not}
 use Rattle.std.specs.List.{list_all}
 use Rattle.std.proofs.lemmas.Bool.Decides.{nat_tests}
 use Rattle.std.proofs.lemmas.List.{length-map}
-use Rattle.lama_num.specs.Lists.{both}
+use Rattle.lama_num.proofs.ListLaws.{both}
 use Rattle.sas_task.specs.Limits.{most_facts, most_listed, highest_layer, longest_name}
-use Rattle.sas_task.specs.Tests.{and_true, all-and, le-test}
+use Rattle.sas_task.proofs.TestLaws.{and_true, all-and, le-test}
 use Rattle.sas_task.specs.WellFormed.{is_derived, is_short, is_layered, is_fact, is_effect}
 use Rattle.sas_task.specs.Refusals.{is_good_rule}
 use Rattle.sas_task.specs.declared.contents.Fact.{Fact}

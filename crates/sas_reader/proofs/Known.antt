@@ -6,9 +6,9 @@ use Rattle.std.proofs.lemmas.List.{take_more, take_all, map-append}
 use Rattle.std.proofs.lemmas.List.Folds.{list_all_at, list_all-append, list_all-map}
 use Rattle.lama_num.specs.Gives.{Gives}
 use Rattle.std.specs.List.{list_all}
-use Rattle.lama_num.specs.Lists.{both}
+use Rattle.lama_num.proofs.ListLaws.{both}
 use Rattle.sas_task.specs.Limits.{most_listed}
-use Rattle.sas_task.specs.Tests.{le-test, and_true}
+use Rattle.sas_task.proofs.TestLaws.{le-test, and_true}
 use Rattle.sas_task.specs.WellFormed.{is_short, is_layered, is_few, is_variable, is_fact}
 use Rattle.sas_task.specs.declared.contents.Variable.{Variable}
 use Rattle.sas_reader.specs.Reading.{AreVariables, as_fact, where_true}

@@ -2,7 +2,7 @@
 use Rattle.std.proofs.Common.{◌≡◌, ◌∙◌, ap, refl, subst, ℕ, zero, suc, List, length, Bool, true, Result, Ok, Err}
 use Rattle.std.specs.List.{list_all}
 use Rattle.lama_num.specs.Gives.{◌>>=◌}
-use Rattle.sas_task.specs.Tests.{and_true}
+use Rattle.sas_task.proofs.TestLaws.{and_true}
 use Rattle.text_lines.specs.Lines.{Place}
 use Rattle.sas_reader.specs.Formats.{Format, Done, Line, Kind, Value, value_of, times}
 use Rattle.sas_reader.specs.Formats as formats

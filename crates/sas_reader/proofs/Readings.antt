@@ -15,7 +15,7 @@ use Rattle.sas_reader.specs.declared.faults.SasError.TheVariants.{Bad}
 use Rattle.sas_reader.specs.declared.faults.SasFault.{SasFault}
 use Rattle.sas_reader.specs.declared.faults.SasFault.TheVariants.{CutShort, Trailing, TooLarge}
 use Rattle.sas_task.specs.Refusals.{brought}
-use Rattle.sas_task.specs.Tests.{le-test, test-le}
+use Rattle.sas_task.proofs.TestLaws.{le-test, test-le}
 use Rattle.sas_task.specs.declared.refusals.What.TheVariants.{Bytes}
 
 -- the whole of lines, the first of which has that number

@@ -6,13 +6,13 @@ use Rattle.std.proofs.lemmas.Bool.Decides.{nat_tests}
 use Rattle.std.proofs.lemmas.List.{length-map}
 use Rattle.std.proofs.lemmas.List.Folds.{list_all-append, list_all-map}
 use Rattle.std.proofs.lemmas.List.Sums.{sum_by-cons}
-use Rattle.lama_num.specs.Lists.{both}
+use Rattle.lama_num.proofs.ListLaws.{both}
 use Rattle.sas_task.specs.Limits.{most_variables, most_facts, most_listed, most_operators, most_rules, highest_cost}
-use Rattle.sas_task.specs.Tests.{and_true, all-one, le-test, test-le}
+use Rattle.sas_task.proofs.TestLaws.{and_true, all-one, le-test, test-le}
 use Rattle.sas_task.specs.WellFormed.{is_short, is_few, is_layered, is_variable, is_fact, are_facts, is_effect, starts, fact_count}
 use Rattle.sas_task.specs.Order.{distinct, prevail}
-use Rattle.sas_task.specs.Admissible.{is_admissible_operator, is_admissible_rule, IsAdmissible}
-use Rattle.sas_task.specs.Admission.{admitted}
+use Rattle.sas_task.proofs.Admissible.{is_admissible_operator, is_admissible_rule, IsAdmissible}
+use Rattle.sas_task.proofs.Admission.{admitted}
 use Rattle.sas_task.specs.Refusals.{refusal_of}
 use Rattle.sas_task.specs.declared.contents.Fact.{Fact}
 use Rattle.sas_task.specs.declared.contents.Variable.{Variable}

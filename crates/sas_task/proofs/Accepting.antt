@@ -4,10 +4,10 @@ use Rattle.std.proofs.Common.{arith, refl, sym, ap, ◌∙◌}
 use Rattle.std.specs.List.{list_all, position_from}
 use Rattle.std.proofs.lemmas.Bool.Decides.{nat_tests}
 use Rattle.std.proofs.lemmas.Iterator.Adapters.{position_from-zero}
-use Rattle.lama_num.specs.Lists.{both}
+use Rattle.lama_num.proofs.ListLaws.{both}
 use Rattle.sas_task.specs.Limits.{most_variables, most_facts, most_operators, most_rules, most_listed, highest_layer, highest_cost, longest_name}
-use Rattle.sas_task.specs.Tests.{within, not-not, all-same}
-use Rattle.sas_task.specs.Admission.{IsAccepted, bad}
+use Rattle.sas_task.proofs.TestLaws.{within, not-not, all-same}
+use Rattle.sas_task.proofs.Admission.{IsAccepted, bad}
 use Rattle.sas_task.specs.WellFormed.{fact_count}
 use Rattle.sas_task.specs.Costs.{is_unit_cost}
 use Rattle.sas_task.specs.Refusals.{above, too_large, condition_counts, name_lengths, is_wide, is_sound, is_good_rule, first_cause, refusal_of}

@@ -4,7 +4,7 @@ use Rattle.std.proofs.Common.{arith, refl, sym, ap, ◌∙◌, subst, append-nil
 use Rattle.std.proofs.lemmas.List.{drop_more, take_more, take_more_set, drop-set-lt}
 use Rattle.std.proofs.lemmas.List.Elements.{filter-append}
 use Rattle.std.proofs.lemmas.Bool.Decides.{nat_tests}
-use Rattle.lama_num.specs.Lists.{both}
+use Rattle.lama_num.proofs.ListLaws.{both}
 use Rattle.sas_task.specs.Facts.{same_fact, has_fact}
 use Rattle.sas_task.specs.Order.{distinct}
 use Rattle.sas_task.specs.declared.contents.Fact.{Fact}

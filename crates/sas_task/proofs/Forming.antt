@@ -5,20 +5,20 @@ use Rattle.std.specs.List.{list_all, cons_option}
 use Rattle.std.proofs.lemmas.List.{length-map}
 use Rattle.std.proofs.lemmas.List.Folds.{list_all-append, list_all-map}
 use Rattle.std.proofs.lemmas.Bool.Decides.{nat_tests}
-use Rattle.lama_num.specs.Lists.{both}
+use Rattle.lama_num.proofs.ListLaws.{both}
 use Rattle.sas_task.specs.Limits.{most_variables, most_facts, most_operators, most_rules, most_listed, highest_layer, highest_cost, longest_name}
 use Rattle.sas_task.specs.WellFormed.{IsWellFormed, is_derived, is_short, is_few, is_layered, is_variable, is_fact, are_facts, is_effect, has_few_conditions, is_operator, starts, is_default, is_layered_rule, is_rule, fact_count}
 use Rattle.sas_task.specs.Costs.{is_unit_cost}
 use Rattle.sas_task.specs.Order.{ordered, in_order, prevail_count, has_few_prevail, IsInOrder}
 use Rattle.sas_task.specs.Refusals.{conditions_of, names_of, is_wide, is_sound_effect, is_sound_operator, is_sound_rule, is_sound, is_good_rule, refusal_of, brought}
-use Rattle.sas_task.specs.Admission.{IsAccepted}
+use Rattle.sas_task.proofs.Admission.{IsAccepted}
 use Rattle.sas_task.proofs.Accepting.{is_accepted}
 use Rattle.sas_task.specs.declared.contents.Variable.{Variable}
 use Rattle.sas_task.specs.declared.contents.Effect.{Effect}
 use Rattle.sas_task.specs.declared.contents.Operator.{Operator}
 use Rattle.sas_task.specs.declared.contents.Rule.{Rule}
 use Rattle.sas_task.specs.declared.contents.Parts.{Parts}
-use Rattle.sas_task.specs.Tests.{within, le-test, test-le, one-within, and_true, all-two, all-one, all-and, within-flat_map, within-map}
+use Rattle.sas_task.proofs.TestLaws.{within, le-test, test-le, one-within, and_true, all-two, all-one, all-and, within-flat_map, within-map}
 use Rattle.sas_task.proofs.Permuting.{all-ordered, is_in_order, few_prevail, length-ordered}
 
 -- variables

@@ -8,3 +8,8 @@ pub mod InPlace
 pub mod Moving
 pub mod Permuting
 pub mod TableLaws
+pub mod Admissible
+pub mod Admission
+pub mod RunLaws
+pub mod TestLaws
+pub mod WithinLaws

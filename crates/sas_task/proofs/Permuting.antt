@@ -6,7 +6,7 @@ use Rattle.std.proofs.lemmas.List.{length_push, nil_from_length}
 use Rattle.std.proofs.lemmas.List.Elements.{filter-append, filter_agree}
 use Rattle.std.proofs.lemmas.List.Folds.{list_all-append}
 use Rattle.std.proofs.lemmas.Bool.Decides.{nat_tests}
-use Rattle.lama_num.specs.Lists.{both}
+use Rattle.lama_num.proofs.ListLaws.{both}
 use Rattle.sas_task.specs.Limits.{most_listed}
 use Rattle.sas_task.specs.Facts.{same_fact, has_fact}
 use Rattle.sas_task.specs.Order.{distinct, on_variable, effects_on, is_prevail, prevail, standing, arranged, ordered, in_order, prevail_count, has_few_prevail, has_one_value_each, IsInOrder}

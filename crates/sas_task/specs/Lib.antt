@@ -1,14 +1,10 @@
-pub mod Admissible
-pub mod Admission
 pub mod Costs
 pub mod Facts
-pub mod Laws
 pub mod Limits
 pub mod Order
 pub mod Refusals
 pub mod Runs
 pub mod States
 pub mod Tables
-pub mod Tests
 pub mod WellFormed
 pub mod Within

@@ -1,3 +1,4 @@
 pub mod Looking
 pub mod RunLaws
 pub mod TableLaws
+pub mod RunEndLaws

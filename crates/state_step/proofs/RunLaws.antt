@@ -2,7 +2,7 @@
 use Rattle.std.proofs.Common.{◌≡◌, ◌∙◌, refl, ℕ, ◌+◌, ◌-◌, ◌<◌, ◌≤◌, List, [], ◌∷◌, length, take, get_or, true, false, Some, IsTrue, arith, slice_get}
 use Rattle.std.specs.List.{list_all}
 use Rattle.std.proofs.lemmas.List.{take_more}
-use Rattle.lama_num.specs.Lists.{both}
+use Rattle.lama_num.proofs.ListLaws.{both}
 use Rattle.sas_task.specs.declared.contents.Variable.{Variable}
 use Rattle.sas_task.specs.declared.contents.Effect.{Effect}
 use Rattle.sas_task.specs.declared.contents.Operator.{Operator}
@@ -10,7 +10,7 @@ use Rattle.sas_task.specs.declared.contents.Parts.{Parts}
 use Rattle.sas_task.specs.WellFormed.{IsWellFormed, is_effect, are_facts}
 use Rattle.sas_task.specs.States.{step}
 use Rattle.sas_task.specs.Runs.{start_of, end_of, cost_of, cost_at}
-use Rattle.sas_task.specs.Laws.{operator-at, effect-fact, end_of-append, cost_of-append}
+use Rattle.sas_task.proofs.RunLaws.{operator-at, effect-fact, end_of-append, cost_of-append}
 use Rattle.axiom_eval.specs.Within.{is_within, fact_within, all_facts_within, facts_within}
 use Rattle.state_step.specs.Steps.{effect_is_within, is_applicable}
 use Rattle.state_step.specs.RunEnds.{StopsAt}

@@ -11,7 +11,7 @@ use Rattle.std.proofs.lemmas.List.Sorted.{Contains-permutation, IsPermutation-sy
 use Rattle.std.proofs.lemmas.Map.Keys.{sorted_head, sorted_tail, sorted_from_strictly_increasing, IsStrictlyIncreasing-dedup}
 use Rattle.sas_task.specs.declared.contents.Parts.{Parts}
 use Rattle.sas_task.specs.States.{is_applicable}
-use Rattle.sas_task.specs.Laws.{applicable-within}
+use Rattle.sas_task.proofs.RunLaws.{applicable-within}
 use Rattle.succ_gen.specs.Trees.{Stored, applicable, IsFound, IsFor}
 use Rattle.succ_gen.specs.Walks.{AreFound}
 use Rattle.succ_gen.proofs.Reaching.{contains_tail, has_filter, range_increasing}

@@ -6,3 +6,4 @@ pub mod Shapes
 pub mod Sorting
 pub mod Trees
 pub mod Ways
+pub mod ConditionLaws

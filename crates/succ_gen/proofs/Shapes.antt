@@ -7,7 +7,7 @@ use Rattle.std.proofs.lemmas.List.Folds.{list_all-append}
 use Rattle.std.proofs.lemmas.List.FromFn.{length-range_with_len, get_or-range_with_len}
 use Rattle.std.proofs.lemmas.List.Sorted.{Contains-permutation}
 use Rattle.std.proofs.lemmas.Option.{slice_get_within, slice_get-get_or, get_or_from_slice_get, slice_get-map}
-use Rattle.lama_num.specs.Lists.{both}
+use Rattle.lama_num.proofs.ListLaws.{both}
 use Rattle.lama_num.specs.Rows.{row_at}
 use Rattle.sas_task.specs.States.{holds, all_hold}
 use Rattle.sas_task.specs.declared.contents.Fact.{Fact}
@@ -15,7 +15,7 @@ use Rattle.succ_gen.specs.declared.growing.Branch.{Branch}
 use Rattle.succ_gen.specs.declared.growing.Home.{Home}
 use Rattle.succ_gen.specs.declared.nodes.Node.{Node}
 use Rattle.succ_gen.specs.Branches.{ways}
-use Rattle.succ_gen.specs.Conditions.{AreFactsBelow}
+use Rattle.succ_gen.proofs.ConditionLaws.{AreFactsBelow}
 use Rattle.succ_gen.specs.Growing.{parent_of, node_of, operators_at, IsGrown, IsWhole}
 use Rattle.succ_gen.specs.Nodes.{IsCut, IsRun, IsNodeAt, AreNodes}
 use Rattle.succ_gen.specs.Trees.{node_at, IsChild, IsOpen, IsFound, IsTree, HasVariables, AreInside}

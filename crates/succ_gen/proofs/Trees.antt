@@ -7,19 +7,21 @@ use Rattle.std.proofs.lemmas.List.{length-map, get_or_past}
 use Rattle.std.proofs.lemmas.List.FromFn.{length-range_with_len}
 use Rattle.std.proofs.lemmas.List.Sorted.{All-permutation, IsPermutation-sym, length_permutation}
 use Rattle.std.proofs.lemmas.List.Sums.{AllPass-from_list_all, list_all-from_AllPass}
-use Rattle.lama_num.specs.Lists.{list_all_get}
+use Rattle.lama_num.proofs.ListLaws.{list_all_get}
 use Rattle.lama_num.specs.Rows.{row_at}
 use Rattle.sas_task.specs.WellFormed.{IsWellFormed}
-use Rattle.sas_task.specs.Within.{is_within, all_facts_within}
+use Rattle.sas_task.specs.Within.{is_within}
+use Rattle.sas_task.proofs.WithinLaws.{all_facts_within}
 use Rattle.sas_task.specs.States.{holds, all_hold, is_applicable}
-use Rattle.sas_task.specs.Laws.{operator-at, applicable-within}
+use Rattle.sas_task.proofs.RunLaws.{operator-at, applicable-within}
 use Rattle.sas_task.specs.declared.contents.Fact.{Fact}
 use Rattle.sas_task.specs.declared.contents.Operator.{Operator}
 use Rattle.sas_task.specs.declared.contents.Parts.{Parts}
 use Rattle.succ_gen.specs.declared.growing.Branch.{Branch}
 use Rattle.succ_gen.specs.declared.growing.Home.{Home}
 use Rattle.succ_gen.specs.declared.nodes.Node.{Node}
-use Rattle.succ_gen.specs.Conditions.{AreConditions, AreFactsBelow}
+use Rattle.succ_gen.specs.Conditions.{AreConditions}
+use Rattle.succ_gen.proofs.ConditionLaws.{AreFactsBelow}
 use Rattle.succ_gen.specs.Growing.{operators_at, IsWhole}
 use Rattle.succ_gen.specs.Nodes.{AreNodes}
 use Rattle.succ_gen.specs.Trees.{IsFor}

@@ -1,5 +1,5 @@
 -- The conditions of operators, in an order of their own.
-use Rattle.std.specs.Prelude.{◌≡◌, ℕ, ◌<◌, List, length, slice_get, Some}
+use Rattle.std.specs.Prelude.{◌≡◌, ℕ, List, length, slice_get, Some}
 use Rattle.std.specs.List.Sorted.{IsPermutation}
 use Rattle.lama_num.specs.Rows.{row_at}
 use Rattle.sas_task.specs.declared.contents.Fact.{Fact}
@@ -15,7 +15,3 @@ pub record IsCondition (conditions : List (List Fact)) (fact : Fact) : Type 0 wh
   pub operator : ℕ
   pub place : ℕ
   pub at : slice_get (row_at conditions operator) place ≡ Some fact
-
--- the conditions are of so many variables
-pub record AreFactsBelow (conditions : List (List Fact)) (variables : ℕ) : Type 0 where
-  pub below : (fact : Fact) → IsCondition conditions fact → fact.var < variables

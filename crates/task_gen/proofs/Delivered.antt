@@ -8,11 +8,11 @@ use Rattle.std.proofs.lemmas.List.Folds.{list_all-append}
 use Rattle.std.proofs.lemmas.List.{map-append}
 use Rattle.sas_task.specs.Limits.{most_listed, most_variables, most_facts, most_operators, longest_name, highest_cost}
 use Rattle.std.proofs.lemmas.List.Sums.{sum_by-cons}
-use Rattle.sas_task.specs.Tests.{and_true, test-le}
+use Rattle.sas_task.proofs.TestLaws.{and_true, test-le}
 use Rattle.sas_task.specs.WellFormed.{is_short, is_few, is_variable, is_fact, are_facts, is_derived, is_effect, starts, fact_count}
 use Rattle.sas_task.specs.Order.{in_order, has_few_prevail}
-use Rattle.sas_task.specs.Admissible.{IsAdmissible, is_admissible_operator}
-use Rattle.sas_task.specs.Admission.{admitted}
+use Rattle.sas_task.proofs.Admissible.{IsAdmissible, is_admissible_operator}
+use Rattle.sas_task.proofs.Admission.{admitted}
 use Rattle.sas_task.specs.Refusals.{refusal_of, brought}
 use Rattle.sas_task.specs.declared.contents.Fact.{Fact}
 use Rattle.sas_task.specs.declared.contents.Variable.{Variable}

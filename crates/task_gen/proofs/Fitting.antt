@@ -1,9 +1,10 @@
 -- What well-formed parts tell of operators and rules.
 use Rattle.std.proofs.Common.{◌≡◌, ℕ, ◌<◌, length, Some, arith}
 use Rattle.std.specs.Prelude.{slice_get}
-use Rattle.lama_num.specs.Lists.{list_all_get}
-use Rattle.sas_task.specs.Tests.{all-one}
-use Rattle.sas_task.specs.Within.{is_within, fact_within, all_facts_within}
+use Rattle.lama_num.proofs.ListLaws.{list_all_get}
+use Rattle.sas_task.proofs.TestLaws.{all-one}
+use Rattle.sas_task.specs.Within.{is_within}
+use Rattle.sas_task.proofs.WithinLaws.{fact_within, all_facts_within}
 use Rattle.sas_task.specs.WellFormed.{IsWellFormed, is_effect, is_operator, is_rule}
 use Rattle.sas_task.specs.declared.contents.Operator.{Operator}
 use Rattle.sas_task.specs.declared.contents.Rule.{Rule}

@@ -5,7 +5,7 @@ use Rattle.std.proofs.lemmas.List.{take_more, take_all, map-append, length-take-
 use Rattle.std.proofs.lemmas.Grind.{flat_map-append, take_at_read}
 use Rattle.std.specs.Prelude.{decimal, Option, Result, Ok, Err, OnOk}
 use Rattle.std.specs.List.{zip, enumerate_from}
-use Rattle.text_lines.specs.Laws.{text_of}
+use Rattle.text_lines.specs.Texts.{text_of}
 use Rattle.sas_task.specs.declared.contents.Fact.{Fact}
 use Rattle.sas_task.specs.declared.contents.Effect.{Effect}
 use Rattle.task_gen.specs.Printed.{spaced, behind_blanks, number_or_none, fact_words, fact_lines, effect_line, old_value, effect_lines, change_lines}

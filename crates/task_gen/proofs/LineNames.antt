@@ -4,10 +4,10 @@ use Rattle.std.specs.Prelude.{codes, decimal}
 use Rattle.std.specs.List.{list_all}
 use Rattle.std.proofs.lemmas.Bool.Decides.{nat_tests}
 use Rattle.std.proofs.lemmas.List.Folds.{list_all-append}
-use Rattle.lama_num.specs.Lists.{both}
+use Rattle.lama_num.proofs.ListLaws.{both}
 use Rattle.text_lines.specs.Lines.{is_some_bytes}
-use Rattle.text_lines.specs.Laws.{has_no_feed, begins_bare}
-use Rattle.sas_task.specs.Tests.{and_true}
+use Rattle.text_lines.specs.Texts.{has_no_feed, begins_bare}
+use Rattle.sas_task.proofs.TestLaws.{and_true}
 use Rattle.task_gen.specs.Delivery.{IsPackageCount, places, packages, truck_at, at_place, inside, truck_of, package_of, move_to, load, unload, moves, loads_of, loads, delivery}
 use Rattle.task_gen.specs.ReadBack.{is_line_name, has_line_names}
 use Rattle.task_gen.proofs.Ranges.{all-map, all-flat_map}

@@ -5,13 +5,13 @@ use Rattle.std.specs.List.{list_all}
 use Rattle.std.specs.Result.{result_ok}
 use Rattle.std.proofs.lemmas.List.{reverse-append, reverse-reverse}
 use Rattle.std.proofs.lemmas.List.Folds.{list_all-append, list_all-map}
-use Rattle.lama_num.specs.Lists.{both}
+use Rattle.lama_num.proofs.ListLaws.{both}
 use Rattle.text_lines.specs.Lines.{cut_lines, onto, is_margin, without_left, without_right, trimmed, lines_of}
-use Rattle.text_lines.specs.Laws.{has_no_feed, begins_bare, is_line}
+use Rattle.text_lines.specs.Texts.{has_no_feed, begins_bare, is_line}
 use Rattle.sas_task.specs.Limits.{longest_name}
 use Rattle.sas_task.specs.Order.{in_order}
 use Rattle.sas_task.specs.Refusals.{brought}
-use Rattle.sas_task.specs.Tests.{and_true, all-one}
+use Rattle.sas_task.proofs.TestLaws.{and_true, all-one}
 use Rattle.sas_task.specs.declared.contents.Variable.{Variable}
 use Rattle.sas_task.specs.declared.contents.Operator.{Operator}
 use Rattle.sas_task.specs.declared.contents.Parts.{Parts}

@@ -4,9 +4,9 @@ use Rattle.std.specs.Prelude.{slice_get}
 use Rattle.std.specs.List.{list_all, flat_map}
 use Rattle.std.proofs.lemmas.List.Folds.{list_all-append}
 use Rattle.lama_num.specs.Gives.{◌>>=◌}
-use Rattle.sas_task.specs.Tests.{and_true}
+use Rattle.sas_task.proofs.TestLaws.{and_true}
 use Rattle.text_lines.specs.Lines.{Place}
-use Rattle.text_lines.specs.Laws.{is_line}
+use Rattle.text_lines.specs.Texts.{is_line}
 use Rattle.sas_reader.specs.Formats.{Format, Done, Line, Kind, Value, value_of, line, times}
 use Rattle.sas_reader.specs.Formats as formats
 use Rattle.sas_reader.specs.Walks.{walk, next, next_by}

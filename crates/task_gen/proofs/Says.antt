@@ -4,12 +4,12 @@ use Rattle.std.specs.Prelude.{codes, decimal, option_to_list, option_map, if◌t
 use Rattle.std.specs.List.{list_all, flat_map}
 use Rattle.std.proofs.lemmas.List.Folds.{list_all-append}
 use Rattle.std.proofs.lemmas.List.{length-map}
-use Rattle.lama_num.specs.Lists.{both}
-use Rattle.lama_num.specs.DecimalLaws.{decimal_of-decimal}
-use Rattle.text_lines.specs.Laws.{is_line}
+use Rattle.lama_num.proofs.ListLaws.{both}
+use Rattle.lama_num.proofs.DecimalLaws.{decimal_of-decimal}
+use Rattle.text_lines.specs.Texts.{is_line}
 use Rattle.sas_task.specs.Limits.{most_listed, most_facts, highest_layer}
-use Rattle.sas_task.specs.Tests.{and_true, le-test}
-use Rattle.sas_task.specs.Within.{fact_within}
+use Rattle.sas_task.proofs.TestLaws.{and_true, le-test}
+use Rattle.sas_task.proofs.WithinLaws.{fact_within}
 use Rattle.sas_task.specs.WellFormed.{is_short, is_layered, is_variable, is_fact, is_effect, range_of}
 use Rattle.sas_task.specs.Refusals.{is_good_rule}
 use Rattle.sas_task.specs.declared.contents.Fact.{Fact}

@@ -5,11 +5,11 @@ use Rattle.std.specs.List.{list_all, flat_map, zip, filter_map, cons_option, enu
 use Rattle.std.proofs.lemmas.List.{map-id}
 use Rattle.std.proofs.lemmas.List.FromFn.{length-enumerate_from}
 use Rattle.std.proofs.lemmas.List.Sums.{sum_by-cons}
-use Rattle.lama_num.specs.Lists.{both, list_all_get}
+use Rattle.lama_num.proofs.ListLaws.{both, list_all_get}
 use Rattle.sas_task.specs.Limits.{most_variables, most_facts, most_listed, most_operators, most_rules, highest_cost}
-use Rattle.sas_task.specs.Tests.{and_true, le-test, test-le}
+use Rattle.sas_task.proofs.TestLaws.{and_true, le-test, test-le}
 use Rattle.sas_task.specs.WellFormed.{IsWellFormed, is_short, is_few, is_variable, is_fact, are_facts, is_effect, is_operator, is_rule, is_default, is_layered_rule, is_derived, starts, fact_count, range_of}
-use Rattle.sas_task.specs.Within.{fact_within}
+use Rattle.sas_task.proofs.WithinLaws.{fact_within}
 use Rattle.sas_task.specs.Order.{distinct, on_variable, prevail, standing_for, arranged, in_order, has_few_prevail}
 use Rattle.sas_task.specs.Refusals.{is_good_rule}
 use Rattle.sas_task.specs.declared.contents.Fact.{Fact}

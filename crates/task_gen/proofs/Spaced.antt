@@ -8,11 +8,11 @@ use Rattle.std.proofs.lemmas.Bool.Decides.{nat_tests}
 use Rattle.std.proofs.lemmas.Fmt.{digits_decimal, decimal_nonempty}
 use Rattle.std.proofs.lemmas.List.{reverse-append}
 use Rattle.std.proofs.lemmas.List.Folds.{list_all-append}
-use Rattle.lama_num.specs.Lists.{both}
-use Rattle.lama_num.specs.DecimalLaws.{decimal_numerals}
+use Rattle.lama_num.proofs.ListLaws.{both}
+use Rattle.lama_num.proofs.DecimalLaws.{decimal_numerals}
 use Rattle.text_lines.specs.Lines.{words_of, pieces_of, is_blank, is_margin, is_some_bytes}
-use Rattle.text_lines.specs.Laws.{has_no_feed, begins_bare, is_line}
-use Rattle.sas_task.specs.Tests.{and_true, all-one}
+use Rattle.text_lines.specs.Texts.{has_no_feed, begins_bare, is_line}
+use Rattle.sas_task.proofs.TestLaws.{and_true, all-one}
 use Rattle.task_gen.specs.Printed.{spaced}
 
 -- a byte that cuts neither lines nor words

@@ -2,9 +2,9 @@
 use Rattle.std.proofs.Common.{◌≡◌, refl, arith, ℕ, ◌<◌, ◌≤◌, List, [], ◌∷◌, length, Bool, true, false, ◌&&◌, not, nat_eq, nat_lt, nat_le}
 use Rattle.std.specs.List.{list_all, filter, zip}
 use Rattle.std.proofs.lemmas.Bool.Decides.{nat_tests}
-use Rattle.lama_num.specs.Lists.{both}
+use Rattle.lama_num.proofs.ListLaws.{both}
 use Rattle.sas_task.specs.Limits.{most_listed, highest_cost}
-use Rattle.sas_task.specs.Tests.{le-test}
+use Rattle.sas_task.proofs.TestLaws.{le-test}
 use Rattle.sas_task.specs.WellFormed.{is_short, is_few, is_layered, is_variable, is_fact, are_facts, is_derived, is_effect, has_few_conditions, is_operator, is_default, is_layered_rule, is_rule, starts}
 use Rattle.sas_task.specs.declared.contents.Variable.{Variable}
 use Rattle.sas_task.specs.declared.contents.Effect.{Effect}

@@ -3,9 +3,9 @@ use Rattle.std.proofs.Common.{◌≡◌, ◌∙◌, ap, refl, ℕ, suc, ◌+◌,
 use Rattle.std.specs.Prelude.{slice_get}
 use Rattle.std.specs.List.{list_all, filter, AllZip}
 use Rattle.std.proofs.lemmas.Option.{some_pair_parts}
-use Rattle.lama_num.specs.Lists.{both}
+use Rattle.lama_num.proofs.ListLaws.{both}
 use Rattle.text_lines.specs.Lines.{Place, lines_of}
-use Rattle.text_lines.specs.Laws.{lines_of-text_of}
+use Rattle.text_lines.proofs.LineLaws.{lines_of-text_of}
 use Rattle.sas_reader.specs.Formats.{Format, Done, Line, value_of}
 use Rattle.sas_reader.specs.Reading.{most_bytes}
 use Rattle.sas_reader.specs.TaskText.{task}

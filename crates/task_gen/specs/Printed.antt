@@ -1,7 +1,7 @@
 -- The canonical text of a task, as its lines.
 use Rattle.std.specs.Prelude.{ℕ, List, [], ◌∷◌, ◌++◌, length, map, flat_map, Bool, if◌then◌else◌, codes, decimal, slice_index, Option, Some, None, option_map}
 use Rattle.std.specs.List.{enumerate_from, join_with_byte}
-use Rattle.text_lines.specs.Laws.{text_of}
+use Rattle.text_lines.specs.Texts.{text_of}
 use Rattle.sas_reader.specs.Reading.{begin_of, end_of}
 use Rattle.sas_reader.specs.declared.sections.Section.{Section}
 use Rattle.sas_reader.specs.declared.sections.Section.TheVariants.{Version, Metric, Variable as AVariable, MutexGroup, State, Goal, Operator as AnOperator, Rule as ARule}

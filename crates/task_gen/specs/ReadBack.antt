@@ -1,7 +1,7 @@
 -- What is printed is read back.
 use Rattle.std.specs.Prelude.{◌≡◌, ℕ, List, length, Bool, ◌&&◌, nat_lt, IsTrue}
 use Rattle.std.specs.List.{list_all, AllZip}
-use Rattle.text_lines.specs.Laws.{is_line}
+use Rattle.text_lines.specs.Texts.{is_line}
 use Rattle.sas_task.specs.Facts.{has_fact}
 use Rattle.sas_task.specs.Order.{has_one_value_each}
 use Rattle.sas_task.specs.declared.contents.Fact.{Fact}

@@ -1,6 +1,6 @@
 // Lines at the end of a text.
 ghost use Rattle.std.specs.Prelude.{◌≡◌, ◌++◌, [], ◌∷◌, decimal, OnOk};
-ghost use Rattle.text_lines.specs.Laws.{text_of};
+ghost use Rattle.text_lines.specs.Texts.{text_of};
 ghost use Rattle.task_gen.specs.Printed.{number_or_none, spaced, fact_words, fact_lines};
 
 use itoa::Buffer;

@@ -3,7 +3,7 @@ ghost use Rattle.std.specs.Prelude.{◌≡◌, ◌<◌, ◌++◌, [], ◌∷◌,
 ghost use Rattle.std.specs.Prelude.{◌≤◌, ℕ, IfOk, OnOk, IsTrue, Some, slice_get};
 ghost use Rattle.std.specs.VecDeque.{deque_items};
 ghost use Rattle.std.specs.List.{zip};
-ghost use Rattle.text_lines.specs.Laws.{text_of};
+ghost use Rattle.text_lines.specs.Texts.{text_of};
 ghost use Rattle.sas_task.specs.WellFormed.{IsWellFormed};
 ghost use Rattle.sas_task.specs.declared.contents.Operator.{Operator as TheOperator};
 ghost use Rattle.sas_task.specs.declared.contents.Rule.{Rule as TheRule};

@@ -1,6 +1,6 @@
 use Rattle.std.proofs.Common.{◌≡◌, ◌∙◌, ◌+◌, [], ◌∷◌, ◌++◌, None, map, refl, sym, ap, subst, arith, rules}
 use Rattle.std.specs.FinMap.{get}
-use Rattle.lama_host.specs.StepLaws.{stays_same, stays_then, stays_untouched}
+use Rattle.lama_host.proofs.StepLaws.{stays_same, stays_then, stays_untouched}
 use Rattle.plan_check.specs.Verdicts.{verdict_of}
 use Rattle.plan_manager.specs.Family.{family_name}
 use Rattle.driver_core.specs.Turns.{turn_of}

@@ -1,5 +1,5 @@
 use Rattle.std.proofs.Common.{◌≡◌, ◌+◌, ◌∙◌, ap, sym, subst, length, List, [], ◌∷◌, ◌++◌, Some, Ok, Err, rules}
-use Rattle.lama_host.specs.StepLaws.{stays_same, stays_kept}
+use Rattle.lama_host.proofs.StepLaws.{stays_same, stays_kept}
 use Rattle.driver_core.specs.Turns.{turn_of, offers}
 use Rattle.candidates.specs.Collecting.{IsInTurn}
 use Rattle.lama_host.specs.Folder.{Changes}

@@ -1,5 +1,5 @@
 use Rattle.std.proofs.Common.{Err, refl, sym, subst}
-use Rattle.lama_host.specs.StepLaws.{stays_same}
+use Rattle.lama_host.proofs.StepLaws.{stays_same}
 use Rattle.driver_core.specs.Turns.{turn_of}
 use Rattle.candidates.specs.declared.reading.ReadError.TheVariants.{NoMemory}
 use Rattle.candidates.specs.Collecting.{IsInTurn, standing}

@@ -1,5 +1,5 @@
 use Rattle.std.proofs.Common.{◌∙◌, refl, ap, length, arith, true, Ok}
-use Rattle.lama_host.specs.StepLaws.{stays_same, stays_then}
+use Rattle.lama_host.proofs.StepLaws.{stays_same, stays_then}
 use Rattle.driver_run.proofs.Asking.{asks_none, asks_then}
 use Rattle.driver_run.proofs.Placing.{outside_then}
 use Rattle.driver_run.proofs.Stopping.{stopped_so}

@@ -1,5 +1,5 @@
 use Rattle.std.proofs.Common.{◌≡◌, ◌∙◌, Some}
-use Rattle.lama_host.specs.StepLaws.{stays_then}
+use Rattle.lama_host.proofs.StepLaws.{stays_then}
 use Rattle.driver_run.proofs.Leaving.{plans_after}
 use Rattle.driver_run.proofs.Telling.{left_ended, left_stopped}
 use Rattle.driver_run.proofs.running.run_on.Goals as goal

@@ -1,5 +1,5 @@
-use Rattle.sas_task.specs.Laws.{operator-at}
-use Rattle.sas_task.specs.Within.{all_facts_within}
+use Rattle.sas_task.proofs.RunLaws.{operator-at}
+use Rattle.sas_task.proofs.WithinLaws.{all_facts_within}
 use Rattle.h_ff.proofs.operators.is_applicable.Goals as goal
 
 pub all_hold-requires : goal.all_hold-requires

@@ -1,6 +1,6 @@
 use Rattle.std.proofs.Common.{◌≡◌, ◌≤◌, subst, length, true, false, refl, arith}
 use Rattle.std.proofs.lemmas.Bool.{both_ways}
-use Rattle.lama_num.specs.Lists.{list_all_get}
+use Rattle.lama_num.proofs.ListLaws.{list_all_get}
 use Rattle.sas_task.specs.WellFormed.{is_fact}
 use Rattle.lm_backchain.specs.Firsts.{AreReached}
 use Rattle.lm_backchain.proofs.FactLists.{has_at}

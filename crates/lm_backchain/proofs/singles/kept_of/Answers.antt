@@ -1,5 +1,5 @@
 use Rattle.std.proofs.Common.{◌≡◌, ◌<◌, List, [], ◌∷◌, length, get_or, refl, arith}
-use Rattle.lama_num.specs.Lists.{list_all_get}
+use Rattle.lama_num.proofs.ListLaws.{list_all_get}
 use Rattle.sas_task.specs.WellFormed.{is_fact}
 use Rattle.sas_task.specs.declared.contents.Fact.{Fact}
 use Rattle.lm_backchain.proofs.Listing.{read_at}

@@ -2,7 +2,7 @@ use Rattle.std.proofs.Common.{◌≡◌, ◌∙◌, ◌+◌, sym, ap, subst, Som
 use Rattle.std.specs.List.{list_any}
 use Rattle.std.specs.Str.{bytes_eq}
 use Rattle.sas_task.specs.States.{step}
-use Rattle.sas_task.specs.Laws.{step-state}
+use Rattle.sas_task.proofs.RunLaws.{step-state}
 use Rattle.packed_state.specs.Packing.{CanHold}
 use Rattle.plan_check.specs.Layers.{pair_words}
 use Rattle.plan_check.proofs.Leading.{kept_more}

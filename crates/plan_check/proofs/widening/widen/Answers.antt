@@ -2,7 +2,7 @@ use Rattle.std.proofs.Common.{◌≡◌, ◌∙◌, ◌<◌, ◌+◌, ◌++◌, 
 use Rattle.std.specs.Prelude.{slice_get}
 use Rattle.std.specs.declared.alloc.Global.{Global}
 use Rattle.std.proofs.lemmas.List.{take_all}
-use Rattle.lama_num.specs.Lists.{list_all_get}
+use Rattle.lama_num.proofs.ListLaws.{list_all_get}
 use Rattle.sas_task.specs.States.{IsState}
 use Rattle.state_step.specs.Steps.{is_applicable}
 use Rattle.plan_check.specs.Layers.{EndsAt, IsGrowing, longer}

@@ -2,7 +2,7 @@ use Rattle.std.proofs.Common.{◌≡◌, ◌∙◌, sym, subst, arith, refl, tru
 use Rattle.std.proofs.lemmas.List.{length-take-le}
 use Rattle.std.specs.FinMap.{get}
 use Rattle.plan_manager.specs.Comparing.{TellsFront}
-use Rattle.lama_host.specs.StepLaws.{keeps_then, keeps_ok, untouched_then, told_again}
+use Rattle.lama_host.proofs.StepLaws.{keeps_then, keeps_ok, untouched_then, told_again}
 use Rattle.plan_manager.proofs.Fronts.{found_more, found_rest, found_all}
 use Rattle.plan_manager.proofs.Lines.{is_nothing}
 use Rattle.plan_manager.proofs.comparing.has_at.Goals as goal

@@ -2,7 +2,7 @@ use Rattle.std.proofs.Common.{◌≡◌, ◌≤◌, ◌∙◌, arith, ap, sym, t
 use Rattle.lama_num.specs.Names.{part_name}
 use Rattle.plan_text.specs.PlanText.{plan_text}
 use Rattle.plan_manager.specs.Family.{family_name}
-use Rattle.plan_manager.specs.FamilyLaws.{family≢part}
+use Rattle.plan_manager.proofs.FamilyLaws.{family≢part}
 use Rattle.plan_manager.specs.Keeping.{plan_number}
 use Rattle.plan_manager.proofs.Placing.{places_as, apart}
 use Rattle.plan_manager.proofs.keeping.keep.Goals as goal

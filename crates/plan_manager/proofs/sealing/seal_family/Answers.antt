@@ -6,7 +6,7 @@ use Rattle.sas_task.specs.declared.contents.Parts.{Parts}
 use Rattle.sas_task.specs.declared.plans.Kept.{Kept}
 use Rattle.plan_text.specs.PlanText.{plan_text}
 use Rattle.plan_manager.specs.Sealing.{text_at}
-use Rattle.lama_host.specs.StepLaws.{keeps_then, keeps_ok}
+use Rattle.lama_host.proofs.StepLaws.{keeps_then, keeps_ok}
 use Rattle.plan_manager.proofs.Stages.{Stage, stage_none, stage_more, stage_failed, stage_last, taken_seals, rewritten_seals, plan_of_first, none_before, none_after}
 use Rattle.plan_manager.proofs.sealing.seal_family.Goals as goal
 

@@ -5,7 +5,7 @@ use Rattle.std.proofs.Math.Seq.{take-nil}
 use Rattle.std.proofs.lemmas.List.Elements.{All-nil, All-cons}
 use Rattle.driver_core.specs.declared.events.Event.{Event}
 use Rattle.driver_core.specs.Keeping.{kept_costs}
-use Rattle.driver_core.specs.Laws.{none_before_first}
+use Rattle.driver_core.proofs.OneMoreEvent.{none_before_first}
 use Rattle.driver_core.specs.Legal.{IsAllowed, MayBegin}
 use Rattle.driver_core.specs.Settings.{most_plans}
 use Rattle.driver_core.specs.Standing.{StandsFor}

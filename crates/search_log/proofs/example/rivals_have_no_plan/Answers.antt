@@ -4,7 +4,7 @@ use Rattle.std.specs.List.{list_all, list_any}
 use Rattle.std.proofs.lemmas.Bool.{ltb-true, leb-true}
 use Rattle.std.proofs.lemmas.Int.{ints}
 use Rattle.std.proofs.lemmas.Option.{slice_get_within}
-use Rattle.lama_num.specs.Lists.{both, list_all_get}
+use Rattle.lama_num.proofs.ListLaws.{both, list_all_get}
 use Rattle.sas_task.specs.declared.contents.Operator.{Operator}
 use Rattle.sas_task.specs.Order.{IsInOrder}
 use Rattle.sas_task.specs.WellFormed.{IsWellFormed}

@@ -1,4 +1,4 @@
-use Rattle.search_log.specs.SpaceLaws.{goal_plan}
+use Rattle.search_log.proofs.SpaceLaws.{goal_plan}
 use Rattle.search_log.proofs.laws.goal_visits_have_plans.Goals as goal
 
 pub returns : goal.returns

@@ -1,4 +1,4 @@
-use Rattle.search_log.specs.ClockLaws.{late_exactly, answers_few, no_answers}
+use Rattle.search_log.proofs.ClockLaws.{late_exactly, answers_few, no_answers}
 use Rattle.search_log.proofs.laws.late_answers_end_logs.Goals as goal
 
 pub returns-clause-late : goal.returns-clause-late

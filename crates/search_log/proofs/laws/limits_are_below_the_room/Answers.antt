@@ -1,4 +1,4 @@
-use Rattle.search_log.specs.RoomLaws.{full_below_room, pops_below_room}
+use Rattle.search_log.proofs.RoomLaws.{full_below_room, pops_below_room}
 use Rattle.search_log.proofs.laws.limits_are_below_the_room.Goals as goal
 
 pub returns-clause-states : goal.returns-clause-states

@@ -1,4 +1,4 @@
-use Rattle.search_log.specs.RoomLaws.{states_in_room, states_once, pops_in_room}
+use Rattle.search_log.proofs.RoomLaws.{states_in_room, states_once, pops_in_room}
 use Rattle.search_log.proofs.laws.logs_keep_to_the_room.Goals as goal
 
 pub returns-clause-states : goal.returns-clause-states

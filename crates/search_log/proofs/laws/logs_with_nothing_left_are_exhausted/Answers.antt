@@ -1,4 +1,4 @@
-use Rattle.search_log.specs.SpaceLaws.{lawful_exhausted}
+use Rattle.search_log.proofs.SpaceLaws.{lawful_exhausted}
 use Rattle.search_log.proofs.laws.logs_with_nothing_left_are_exhausted.Goals as goal
 
 pub returns : goal.returns

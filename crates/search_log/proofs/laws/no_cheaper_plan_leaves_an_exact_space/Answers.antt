@@ -1,4 +1,4 @@
-use Rattle.search_log.specs.SpaceLaws.{no_cheaper_plan}
+use Rattle.search_log.proofs.SpaceLaws.{no_cheaper_plan}
 use Rattle.search_log.proofs.laws.no_cheaper_plan_leaves_an_exact_space.Goals as goal
 
 pub returns : goal.returns

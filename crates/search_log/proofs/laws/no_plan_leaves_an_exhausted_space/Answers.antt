@@ -1,4 +1,4 @@
-use Rattle.search_log.specs.SpaceLaws.{no_plan}
+use Rattle.search_log.proofs.SpaceLaws.{no_plan}
 use Rattle.search_log.proofs.laws.no_plan_leaves_an_exhausted_space.Goals as goal
 
 pub returns : goal.returns

@@ -1,5 +1,5 @@
 use Rattle.std.proofs.Common.{◌≡◌, ◌++◌, map, take}
-use Rattle.text_lines.specs.Laws.{text_of}
+use Rattle.text_lines.specs.Texts.{text_of}
 use Rattle.task_gen.specs.Printed.{spaced, fact_words}
 use Rattle.task_gen.proofs.lines.push_facts.Given as goal
 

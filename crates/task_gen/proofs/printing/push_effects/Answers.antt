@@ -1,5 +1,5 @@
 use Rattle.std.proofs.Common.{◌∙◌, ap, ◌++◌, map}
-use Rattle.text_lines.specs.Laws.{text_of}
+use Rattle.text_lines.specs.Texts.{text_of}
 use Rattle.task_gen.specs.Printed.{effect_line}
 use Rattle.task_gen.proofs.Grown.{effects_grown, zip_all}
 use Rattle.task_gen.proofs.printing.push_effects.Goals as goal

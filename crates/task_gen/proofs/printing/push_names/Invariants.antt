@@ -1,5 +1,5 @@
 use Rattle.std.proofs.Common.{◌≡◌, ◌++◌, take}
-use Rattle.text_lines.specs.Laws.{text_of}
+use Rattle.text_lines.specs.Texts.{text_of}
 use Rattle.task_gen.proofs.printing.push_names.Given as goal
 
 abbrev pub invariant-loop-name : goal.invariant-loop-name

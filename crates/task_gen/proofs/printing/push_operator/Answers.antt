@@ -3,7 +3,7 @@ use Rattle.std.specs.Prelude.{decimal}
 use Rattle.std.specs.List.{enumerate_from}
 use Rattle.std.proofs.lemmas.List.{length-map}
 use Rattle.std.proofs.lemmas.List.FromFn.{length-enumerate_from}
-use Rattle.text_lines.specs.Laws.{text_of}
+use Rattle.text_lines.specs.Texts.{text_of}
 use Rattle.sas_reader.specs.Reading.{begin_of, end_of}
 use Rattle.sas_reader.specs.declared.sections.Section.TheVariants.{Operator}
 use Rattle.task_gen.specs.Printed.{old_value, change_lines, operator_lines}

@@ -1,7 +1,7 @@
 use Rattle.std.specs.VecDeque.{deque_items}
 use Rattle.std.proofs.Common.{◌≡◌, ◌++◌, [], take}
 use Rattle.std.specs.List.{flat_map}
-use Rattle.text_lines.specs.Laws.{text_of}
+use Rattle.text_lines.specs.Texts.{text_of}
 use Rattle.task_gen.specs.Printed.{operator_lines}
 use Rattle.task_gen.specs.Waiting.{Waits}
 use Rattle.task_gen.proofs.printing.push_operators.Given as goal

@@ -1,6 +1,6 @@
 use Rattle.std.proofs.Common.{◌≡◌, ◌++◌, take}
 use Rattle.std.specs.List.{flat_map}
-use Rattle.text_lines.specs.Laws.{text_of}
+use Rattle.text_lines.specs.Texts.{text_of}
 use Rattle.task_gen.specs.Printed.{rule_lines}
 use Rattle.task_gen.proofs.printing.push_rules.Given as goal
 

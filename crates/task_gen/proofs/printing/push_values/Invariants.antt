@@ -1,6 +1,6 @@
 use Rattle.std.specs.Prelude.{decimal}
 use Rattle.std.proofs.Common.{◌≡◌, ◌++◌, map, take}
-use Rattle.text_lines.specs.Laws.{text_of}
+use Rattle.text_lines.specs.Texts.{text_of}
 use Rattle.task_gen.proofs.printing.push_values.Given as goal
 
 abbrev pub invariant-loop-value : goal.invariant-loop-value

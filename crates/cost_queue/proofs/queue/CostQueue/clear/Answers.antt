@@ -1,4 +1,4 @@
-use Rattle.cost_queue.specs.Laws.{taken_fewer}
+use Rattle.cost_queue.proofs.WaitingLaws.{taken_fewer}
 use Rattle.cost_queue.proofs.queue.CostQueue.clear.Goals as goal
 
 pub waiting-smaller : goal.waiting-smaller

@@ -1,4 +1,4 @@
-use Rattle.exit_codes.specs.Flags.{contains-set_of}
+use Rattle.exit_codes.proofs.FlagLaws.{contains-set_of}
 use Rattle.exit_codes.proofs.sets.Codes.has.Goals as goal
 
 pub returns : goal.returns

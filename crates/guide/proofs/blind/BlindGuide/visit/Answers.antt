@@ -1,4 +1,4 @@
-use Rattle.guide.specs.OperatorLaws.{none_preferred}
+use Rattle.guide.proofs.OperatorLaws.{none_preferred}
 use Rattle.guide.proofs.blind.BlindGuide.visit.Goals as goal
 
 pub returns-clause-preferred : goal.returns-clause-preferred

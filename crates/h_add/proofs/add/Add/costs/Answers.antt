@@ -3,7 +3,7 @@ use Rattle.std.specs.Prelude.{◌↔◌}
 use Rattle.relaxed_task.specs.Estimates.{is_finite}
 use Rattle.relaxed_task.specs.Numbers.{number_of}
 use Rattle.relaxed_task.specs.Reached.{IsReached}
-use Rattle.relaxed_task.specs.ReachLaws.{finite_exactly}
+use Rattle.relaxed_task.proofs.ReachLaws.{finite_exactly}
 use Rattle.h_add.specs.Values.{value_at, Evaluator}
 use Rattle.h_add.proofs.add.Add.costs.Goals as goal
 

@@ -1,5 +1,5 @@
 use Rattle.std.proofs.Common.{rules, refl, []}
-use Rattle.h_add.specs.Laws.{evaluated_facts}
+use Rattle.h_add.proofs.EvaluatedLaws.{evaluated_facts}
 use Rattle.h_add.specs.Values.{IsEvaluatedByNumber}
 use Rattle.h_add.proofs.add.Add.evaluate.Goals as goal
 

@@ -1,7 +1,7 @@
 use Rattle.std.proofs.Common.{ap, subst, sym}
 use Rattle.relaxed_task.specs.Relaxations.{IsRelaxed}
 use Rattle.relaxed_task.specs.declared.relaxation.Lists.{Lists}
-use Rattle.h_add.specs.Laws.{goals_by_number, value_of_goals, dead_by_goals}
+use Rattle.h_add.proofs.EvaluatedLaws.{goals_by_number, value_of_goals, dead_by_goals}
 use Rattle.h_add.specs.Values.{Evaluator}
 use Rattle.h_add.proofs.add.Add.evaluate_goal.Goals as goal
 

@@ -1,6 +1,6 @@
 use Rattle.std.proofs.Common.{rules}
 use Rattle.relaxed_task.specs.Numbers.{numbers_of}
-use Rattle.h_add.specs.Laws.{evaluated_facts}
+use Rattle.h_add.proofs.EvaluatedLaws.{evaluated_facts}
 use Rattle.h_add.specs.Values.{IsEvaluatedByNumber}
 use Rattle.h_add.proofs.add.Add.evaluate_without.Goals as goal
 

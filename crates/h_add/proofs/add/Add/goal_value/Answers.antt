@@ -1,9 +1,9 @@
 use Rattle.std.proofs.Common.{◌∙◌, ap}
-use Rattle.relaxed_task.specs.NumberLaws.{sum_by_number}
+use Rattle.relaxed_task.proofs.NumberLaws.{sum_by_number}
 use Rattle.relaxed_task.specs.Numbers.{costs_by}
 use Rattle.relaxed_task.specs.Relaxing.{sum_of}
 use Rattle.relaxed_task.specs.Facts.{distinct_facts}
-use Rattle.h_add.specs.Laws.{dead_of_all}
+use Rattle.h_add.proofs.EvaluatedLaws.{dead_of_all}
 use Rattle.h_add.specs.Values.{value_at}
 use Rattle.h_add.proofs.add.Add.goal_value.Goals as goal
 

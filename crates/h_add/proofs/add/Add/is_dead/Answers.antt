@@ -1,7 +1,7 @@
 use Rattle.std.proofs.Common.{◌≡◌}
 use Rattle.lama_num.specs.declared.estimates.Estimate.TheVariants.{Infinite}
-use Rattle.relaxed_task.specs.ReachLaws.{no_operators_reach_the_goal}
-use Rattle.h_add.specs.Laws.{dead_of_all}
+use Rattle.relaxed_task.proofs.ReachLaws.{no_operators_reach_the_goal}
+use Rattle.h_add.proofs.EvaluatedLaws.{dead_of_all}
 use Rattle.h_add.proofs.add.Add.is_dead.Goals as goal
 
 pub returns-in-Infinite-clause-safe : goal.returns-in-Infinite-clause-safe

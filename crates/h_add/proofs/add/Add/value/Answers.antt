@@ -1,10 +1,10 @@
 use Rattle.std.proofs.Common.{◌≡◌, ◌+◌, ◌∙◌, sym, ap, subst, get_or, ℕ, List, true}
 use Rattle.lama_num.specs.declared.estimates.Estimate.{Estimate}
-use Rattle.relaxed_task.specs.NumberLaws.{number_by-is}
+use Rattle.relaxed_task.proofs.NumberLaws.{number_by-is}
 use Rattle.relaxed_task.specs.Numbers.{number_of}
 use Rattle.relaxed_task.specs.AdditiveCosts.{IsAdditiveCost}
 use Rattle.relaxed_task.specs.Relaxations.{IsRelaxed}
-use Rattle.relaxed_task.specs.ReachLaws.{finite_exactly}
+use Rattle.relaxed_task.proofs.ReachLaws.{finite_exactly}
 use Rattle.sas_task.specs.WellFormed.{is_fact}
 use Rattle.sas_task.specs.declared.contents.CostKind.{CostKind}
 use Rattle.sas_task.specs.declared.contents.Fact.{Fact}

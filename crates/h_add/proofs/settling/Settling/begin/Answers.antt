@@ -1,9 +1,9 @@
 use Rattle.std.proofs.Common.{◌∙◌, ◌≡◌, length, true}
 use Rattle.std.specs.List.{list_all}
 use Rattle.std.proofs.lemmas.List.Folds.{list_all-append}
-use Rattle.relaxed_task.specs.Elements.{join}
+use Rattle.relaxed_task.proofs.Elements.{join}
 use Rattle.relaxed_task.specs.Numbers.{numbers_by, is_below}
-use Rattle.relaxed_task.specs.NumberLaws.{numbers_by-is, state_below, start_numbers}
+use Rattle.relaxed_task.proofs.NumberLaws.{numbers_by-is, state_below, start_numbers}
 use Rattle.h_add.proofs.Steps.{fresh_way, counted_marked, marked_more, begun}
 use Rattle.h_add.proofs.settling.Settling.begin.Goals as goal
 

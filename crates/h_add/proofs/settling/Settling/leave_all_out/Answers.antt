@@ -1,7 +1,7 @@
 use Rattle.std.proofs.Common.{◌≡◌, true, ◌<◌, ◌∙◌, ap, sym, ℕ, List, length, map, arith}
 use Rattle.std.proofs.lemmas.List.{get_or-map, length-map, take_all}
 use Rattle.relaxed_task.specs.Numbers.{number_by, is_among}
-use Rattle.relaxed_task.specs.NumberLaws.{numbers_same, numbers_below}
+use Rattle.relaxed_task.proofs.NumberLaws.{numbers_same, numbers_below}
 use Rattle.h_add.specs.Networks.{are_below}
 use Rattle.h_add.proofs.Growing.{below_at}
 use Rattle.h_add.proofs.Steps.{out_more}

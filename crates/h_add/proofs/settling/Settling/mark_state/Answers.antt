@@ -1,6 +1,6 @@
 use Rattle.std.proofs.Common.{◌∙◌, sym, arith}
 use Rattle.relaxed_task.specs.Numbers.{numbers_by}
-use Rattle.relaxed_task.specs.NumberLaws.{long_numbers, number_at}
+use Rattle.relaxed_task.proofs.NumberLaws.{long_numbers, number_at}
 use Rattle.h_add.proofs.Steps.{taken_marked, all_marked}
 use Rattle.h_add.proofs.settling.Settling.mark_state.Goals as goal
 

@@ -1,7 +1,7 @@
 use Rattle.std.proofs.Common.{◌∙◌, refl, arith}
 use Rattle.std.proofs.lemmas.List.Folds.{list_all_more}
-use Rattle.relaxed_task.specs.Elements.{join}
-use Rattle.relaxed_task.specs.NumberLaws.{weaker}
+use Rattle.relaxed_task.proofs.Elements.{join}
+use Rattle.relaxed_task.proofs.NumberLaws.{weaker}
 use Rattle.h_add.specs.UnderWay.{is_settled}
 use Rattle.h_add.proofs.Steps.{later_more}
 use Rattle.h_add.proofs.settling.Settling.settle_goals.Goals as goal

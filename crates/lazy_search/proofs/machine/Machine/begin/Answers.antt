@@ -3,7 +3,7 @@ use Rattle.std.specs.Prelude.{Option, IfSome, Vec, filter, not, ◌&&◌}
 use Rattle.std.specs.declared.alloc.Global.{Global}
 use Rattle.sas_task.specs.Runs.{start_of, is_goal}
 use Rattle.sas_task.specs.States.{IsState}
-use Rattle.sas_task.specs.Laws.{start-state}
+use Rattle.sas_task.proofs.RunLaws.{start-state}
 use Rattle.relaxed_task.specs.Reached.{IsDead}
 use Rattle.packed_state.specs.Packing.{Places, packed}
 use Rattle.state_registry.specs.Registries.{Visited as Visits}

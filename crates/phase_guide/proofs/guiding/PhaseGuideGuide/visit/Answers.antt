@@ -3,7 +3,8 @@ use Rattle.relaxed_task.specs.Reached.{IsDead}
 use Rattle.bit_rows.specs.Rows.{has}
 use Rattle.lm_tracks.specs.Tracks.{Keeps}
 use Rattle.guide.specs.Operators.{is_among}
-use Rattle.phase_guide.specs.Fits.{Answers, Fits, last_more}
+use Rattle.phase_guide.specs.Fits.{Answers, Fits}
+use Rattle.phase_guide.proofs.LastStates.{last_more}
 use Rattle.phase_guide.specs.Guides.{Guiding, IsFor}
 use Rattle.phase_guide.proofs.Answering.{on_ok, on_ok_map, stays_for, said_along, fits_stay, dead_is, preferred_is}
 use Rattle.phase_guide.proofs.guiding.PhaseGuideGuide.visit.Goals as goal

@@ -1,6 +1,6 @@
 use Rattle.std.proofs.Common.{◌∙◌, sym, ap, arith}
 use Rattle.plan_manager.specs.Family.{family_name}
-use Rattle.plan_manager.specs.FamilyLaws.{family_zero, family_numbered}
+use Rattle.plan_manager.proofs.FamilyLaws.{family_zero, family_numbered}
 use Rattle.plan_manager.proofs.families.FamilyFile.new.Goals as goal
 
 pub returns-then-number-eq0 : goal.returns-then-number-eq0

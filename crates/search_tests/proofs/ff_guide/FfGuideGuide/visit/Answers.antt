@@ -1,4 +1,4 @@
-use Rattle.guide.specs.OperatorLaws.{none_preferred}
+use Rattle.guide.proofs.OperatorLaws.{none_preferred}
 use Rattle.search_tests.proofs.ff_guide.FfGuideGuide.visit.Goals as goal
 
 pub returns-in-Finite-clause-preferred : goal.returns-in-Finite-clause-preferred
