@@ -21,9 +21,7 @@ use Rattle.axiom_eval.specs.declared.tables.Head.{Head}
 use Rattle.axiom_eval.specs.declared.tables.Rules.{Rules}
 use Rattle.axiom_eval.proofs.Rounds.{is_sound_rule, are_sound, IsClosed, closed_is_rounds, rounds_grow, below_same, fire_grows, fire_reached, open_le_size, size_le_length, open_less}
 use Rattle.axiom_eval.proofs.Sound.{same_layer, layer_same, rules_sound, head_gains}
-
-same_nat : (m n : ℕ) → nat_eq m n ≡ true → m ≡ n
-same_nat m n is = grind (arith, nat_tests)
+use Rattle.std.proofs.lemmas.Bool.{eqb-true as same_nat}
 
 pub any_get : {X : Type 0} (p : X → Bool) (xs : List X) (i : ℕ) (x : X) → slice_get xs i ≡ Some x → p x ≡ true → list_any p xs ≡ true
 any_get p [] i x at is = let k : ◌≡◌ {A = _} (slice_get [] i) (Some x) = at in cc

@@ -7,7 +7,7 @@ use Rattle.std.proofs.lemmas.List.{length-set, length-map, take_more, map-append
 use Rattle.std.proofs.lemmas.List.Folds.{list_any_more, list_any-append, list_all-append}
 use Rattle.std.proofs.lemmas.List.Sorted.{list_any-IsPermutation, length_permutation}
 use Rattle.std.proofs.lemmas.Option.{slice_get_within, slice_get-get_or, get_or_from_slice_get}
-use Rattle.lama_num.proofs.ListLaws.{both, list_all_get}
+use Rattle.lama_num.proofs.ListLaws.{both, list_all_get, found_at}
 use Rattle.lama_num.specs.Rows.{row_at}
 use Rattle.sas_task.specs.declared.contents.Fact.{Fact}
 use Rattle.sas_task.specs.declared.contents.Variable.{Variable}
@@ -27,9 +27,7 @@ use Rattle.axiom_eval.specs.declared.tables.Rules.{Rules}
 use Rattle.axiom_eval.proofs.Sound.{all_from_get, same_layer, layer_same}
 use Rattle.axiom_eval.proofs.Hearing.{any_get, any_found, IsFound}
 use Rattle.axiom_eval.proofs.Resetting.{all_at}
-
-same_nat : (m n : ℕ) → nat_eq m n ≡ true → m ≡ n
-same_nat m n is = grind (arith, nat_tests)
+use Rattle.std.proofs.lemmas.Bool.{eqb-true as same_nat}
 
 or_true : (a : Bool) → (a || true) ≡ true
 or_true true = refl
@@ -259,11 +257,6 @@ get_map : {X Y : Type 0} (f : X → Y) (xs : List X) (i : ℕ) (d : Y) (x : X) �
 get_map f [] i d x at = let k : ◌≡◌ {A = _} (slice_get [] i) (Some x) = at in cc
 get_map f (y ∷ xs) zero d x at = let k : Some y ≡ Some x = at in let e : y ≡ x = cc in ap f e
 get_map f (y ∷ xs) (suc i) d x at = get_map f xs i d x at
-
-found_at : {X : Type 0} (xs : List X) (i : ℕ) → i < length xs → (x : X) × (slice_get xs i ≡ Some x)
-found_at [] i lt = absurd (omega arith)
-found_at (x ∷ xs) zero lt = (x, refl)
-found_at (x ∷ xs) (suc i) lt = found_at xs i (omega arith)
 
 stands_at : (parts : Parts) (slots : List Slot) (rules : Rules) (place : ℕ) (slot : Slot) (rule : Rule) → rules.heads ≡ map (head_of parts.rules) slots → rules.conds ≡ map (conds_of parts.rules) slots → slice_get slots place ≡ Some slot → slice_get parts.rules slot.rule ≡ Some rule → layer_of parts.variables rule.head.var ≡ Some slot.layer → StandsAt parts rules rule place
 stands_at parts slots rules place slot rule heads_are conds_are at at_rule layer =

@@ -14,6 +14,7 @@ use Rattle.sas_task.specs.WellFormed.{layer_of}
 use Rattle.sas_task.specs.States.{given, last_or, holds, all_hold, written, rules_of, is_layer, round_of, rounds_of, size_of}
 use Rattle.axiom_eval.specs.Layers.{is_of, gain, Below, open_among, open_of}
 use Rattle.axiom_eval.proofs.FiringLaws.{fires_on, some_fires}
+use Rattle.std.proofs.lemmas.Bool.{eqb-true as same_nat}
 
 -- a rule of the layer gives the gain, and its conditions in the layer are on gains
 abbrev pub is_sound_cond : Parts → ℕ → Fact → Bool
@@ -32,9 +33,6 @@ bool_cases false = inr refl
 none_of : (a b : Bool) → (a || b) ≡ false → (a ≡ false) × (b ≡ false)
 none_of true b h = let k : true ≡ false = h in cc
 none_of false b h = (refl, h)
-
-same_nat : (m n : ℕ) → nat_eq m n ≡ true → m ≡ n
-same_nat m n is = grind (arith, nat_tests)
 
 nat_same : (m n : ℕ) → m ≡ n → nat_eq m n ≡ true
 nat_same m n is = grind (arith, nat_tests)

@@ -4,7 +4,7 @@ use sas_task::TaskError;
 use std::alloc::{AllocError, AllocFailed};
 use std::io;
 
-#[derive(Drop)]
+#[derive(Debug, Drop)]
 pub enum Failure {
     Words,
     NoMemory,

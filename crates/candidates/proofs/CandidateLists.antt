@@ -114,7 +114,7 @@ kept_then result base many parts before first second bound between files steps m
           (subst (λ n. PlacesLast result base many parts n bound (last_of (last_of files steps) two.0) two.1) number two.4),
     )
 
-plan_number_low : (many : Bool) (number : ℕ) → number ≤ 9999 → plan_number many number ≤ 9999
+pub plan_number_low : (many : Bool) (number : ℕ) → number ≤ 9999 → plan_number many number ≤ 9999
 plan_number_low true number high = high
 plan_number_low false number high = omega arith
 

@@ -22,7 +22,7 @@ use Rattle.candidates.specs.declared.reading.ReadError.TheVariants.{Failed}
 use Rattle.candidates.specs.ChildFiles.{ChildFile, file_of, child_files}
 use Rattle.candidates.specs.Collecting.{IsInTurn, KeepsBelow, Standing, TakesIn}
 use Rattle.candidates.specs.Judging.{Judged, judged_as, judged_of, offer_of, plans_of, judged_in, AreAllOrFirst}
-use Rattle.candidates.proofs.CandidateLists.{keeping_writes}
+use Rattle.candidates.proofs.CandidateLists.{keeping_writes, plan_number_low as number_low}
 use Rattle.candidates.proofs.CandidateLists.{AreFew, WritesPlans}
 use Rattle.candidates.proofs.ChildFiles.{files_from, files_at_first, file_then, no_single, no_more, no_files_at_end, judged_over, judged_none, judged_next}
 use Rattle.candidates.proofs.Gathered.{few_plans}
@@ -39,10 +39,6 @@ child_family≢family base entry zero zero few low high same = child≢base base
 child_family≢family base entry zero (suc n) few low high same = child≢numbered base entry (suc n) (omega arith) (omega arith) (sym (family_zero (child_name base entry)) ∙ same ∙ family_numbered base (suc n) (omega arith))
 child_family≢family base entry (suc m) zero few low high same = child_numbered≢base base entry (suc m) (omega arith) (omega arith) (sym (family_numbered (child_name base entry) (suc m) (omega arith)) ∙ same ∙ family_zero base)
 child_family≢family base entry (suc m) (suc n) few low high same = child_numbered≢numbered base entry (suc m) (suc n) (omega arith) (omega arith) (omega arith) (sym (family_numbered (child_name base entry) (suc m) (omega arith)) ∙ same ∙ family_numbered base (suc n) (omega arith))
-
-number_low : (many : Bool) (number : ℕ) → number ≤ 9999 → plan_number many number ≤ 9999
-number_low true number high = high
-number_low false number high = omega arith
 
 -- so they hold what they held where plans are written
 child_stays : (base : List ℕ) (many : Bool) (parts : Parts) (count : ℕ) (plans : List Kept) (before after : Files) (entry number : ℕ) → entry ≤ 1000 → number ≤ 9999 → count + length plans ≤ 9999 → WritesPlans base many parts count plans before after

@@ -5,3 +5,4 @@ pub mod Cutting
 pub mod ReadingBack
 pub mod Readings
 pub mod Turns
+pub mod GuideKinds

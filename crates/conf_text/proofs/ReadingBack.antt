@@ -25,56 +25,8 @@ use Rattle.conf_text.specs.declared.options.OptionName.{OptionName}
 use Rattle.conf_text.specs.declared.options.OptionName.TheVariants.{Preferred, CostType, Estimate, Weight, Reopen, Boost, MostPops, MostStates}
 use Rattle.conf_text.specs.declared.options.Options.{Options}
 use Rattle.conf_text.proofs.Readings.{spot, token_at, Reads, EndsWord, reads_gives, reads_bind, sign_bind, reads_map, reads_same, IsWord, reads_word, reads_behind, reads_open, reads_close, reads_bracket, reads_equals, closes_round, closes_square, Chain, chain_nil, chain_cons, comma_ends, reads_members}
-
--- guides
-
-is_not : (b : Bool) → not b ≡ true → b ≡ false
-is_not true e = let k : false ≡ true = e in cc
-is_not false e = refl
-
--- how many kinds of guides aren't among some
-missing : Bool → ℕ
-missing true = 0
-missing false = 1
-
-kinds_left : List GuideKind → ℕ
-kinds_left front = missing (has_guide front Add) + (missing (has_guide front Ff) + missing (has_guide front Lm))
-
-among : (front : List GuideKind) (g h : GuideKind) → has_guide (front ++ g ∷ []) h ≡ (has_guide front h || (same_guide h g || false))
-among front g h = list_any-append (same_guide h) front (g ∷ [])
-
-or_false : (b : Bool) → (b || false) ≡ b
-or_false true = refl
-or_false false = refl
-
--- one kind less is left behind a new guide
-one_less : (front : List GuideKind) (g : GuideKind) → has_guide front g ≡ false → kinds_left front ≡ kinds_left (front ++ g ∷ []) + 1
-unfolding kinds_left missing
-one_less front Add new = rw (among front Add Add, among front Add Ff, among front Add Lm, new, or_false (has_guide front Ff), or_false (has_guide front Lm)) (omega arith)
-one_less front Ff new = rw (among front Ff Add, among front Ff Ff, among front Ff Lm, new, or_false (has_guide front Add), or_false (has_guide front Lm)) (omega arith)
-one_less front Lm new = rw (among front Lm Add, among front Lm Ff, among front Lm Lm, new, or_false (has_guide front Add), or_false (has_guide front Ff)) (omega arith)
-
--- what a list of guides tells of its first
-pub record Begins (allowed front : List GuideKind) (g : GuideKind) (gs : List GuideKind) : Type 0 where
-  pub new : has_guide front g ≡ false
-  pub may : has_guide allowed g ≡ true
-  pub more : each_once allowed (front ++ g ∷ []) gs ≡ true
-
-begins : (allowed front : List GuideKind) (g : GuideKind) (gs : List GuideKind) → each_once allowed front (g ∷ gs) ≡ true → Begins allowed front g gs
-begins allowed front g gs once =
-    let parts = both (not (has_guide front g) && has_guide allowed g) (each_once allowed (front ++ g ∷ []) gs) once in
-    let two = both (not (has_guide front g)) (has_guide allowed g) parts.0 in
-    record { new = is_not (has_guide front g) two.0; may = two.1; more = parts.1 }
-
-few_guides : (allowed front gs : List GuideKind) → each_once allowed front gs ≡ true → length gs ≤ kinds_left front
-few_guides allowed front [] once = omega arith
-few_guides allowed front (g ∷ gs) once =
-    let is = begins allowed front g gs once in
-    omega (arith, one_less front g is.new, few_guides allowed (front ++ g ∷ []) gs is.more)
-
-three_left : kinds_left [] ≡ 3
-unfolding kinds_left missing
-three_left = refl
+use Rattle.lama_num.proofs.BoolLaws.{or-false as or_false}
+use Rattle.conf_text.proofs.GuideKinds.{few_guides, three_left, begins}
 
 guide_word : (g : GuideKind) → List ℕ
 guide_word Add = codes "add"

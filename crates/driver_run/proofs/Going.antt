@@ -26,6 +26,7 @@ use Rattle.run_report.specs.Runs.{IsUnderWay}
 use Rattle.run_report.specs.Searches.{Run}
 use Rattle.driver_run.specs.Searching.{turns_on, begun_with}
 use Rattle.driver_run.proofs.Turning.{own_offer, the_turn, none_offered, offered_more, events_more}
+use Rattle.run_report.proofs.Planning.{cheaper-push as cheaper_more}
 
 pub take_none : (single : Bool) → ◌≡◌ {A = List ℕ} (take (most_plans single) []) []
 take_none true = refl
@@ -49,11 +50,6 @@ begun run core began same one stands = record {
   ended = tt;
   plans = record { plans = All-nil (λ (plan : Kept). IsPlanOf run.parts plan.ops plan.cost); cheaper = tt };
 }
-
-cheaper_more : (bound : Option ℕ) (kept : List Kept) (plan : Kept) → AreCheaper bound kept →
-    is_below (last_or bound (map (λ (other : Kept). other.cost) kept)) plan.cost ≡ true → AreCheaper bound (kept ++ plan ∷ [])
-cheaper_more bound [] plan all below = (below, tt)
-cheaper_more bound (first ∷ kept) plan all below = (all.0, cheaper_more (Some first.cost) kept plan all.1 below)
 
 pub more_plans : (parts : Parts) (bound : Option ℕ) (kept : List Kept) (plan : Kept) → ArePlans parts bound kept → IsPlanOf parts plan.ops plan.cost →
     is_below (last_or bound (map (λ (other : Kept). other.cost) kept)) plan.cost ≡ true → ArePlans parts bound (kept ++ plan ∷ [])

@@ -17,9 +17,7 @@ use Rattle.lama_host.proofs.StepLaws.{leaves_by, told_before}
 use Rattle.driver_run.specs.Leaves.{LeavesPlans}
 use Rattle.driver_run.specs.Words.{is_own_name, base_name}
 use Rattle.driver_run.proofs.OwnNames.{own_base, own_part, own_number}
-
-same_files : (x y : Files) → Some x ≡ Some y → x ≡ y
-same_files x y e = cc
+use Rattle.lama_host.proofs.FileLaws.{same_files}
 
 -- a folder that was sealed
 pub sealed_plans : (before now : Told) (parts : Parts) (many : Bool) (kept : List Kept) (base : List ℕ) → base ≡ base_name →

@@ -30,47 +30,8 @@ use Rattle.driver_run.specs.declared.progress.Trail.{Trail}
 use Rattle.driver_run.specs.Searching.{run_by, turns_on, IsSearching, HasEnded, HasCounted}
 use Rattle.driver_run.proofs.Stepping.{at_phase, phase_within}
 use Rattle.driver_run.proofs.Closing.{ends_by, ends_at, counted_pops, counted_phases}
-
--- there are at most three guides
-
-is_not : (b : Bool) → not b ≡ true → b ≡ false
-is_not true e = let k : false ≡ true = e in cc
-is_not false e = refl
-
--- how many kinds of guides aren't among some
-missing : Bool → ℕ
-missing true = 0
-missing false = 1
-
-kinds_left : List GuideKind → ℕ
-kinds_left front = missing (has_guide front Add) + (missing (has_guide front Ff) + missing (has_guide front Lm))
-
-among : (front : List GuideKind) (g h : GuideKind) → has_guide (front ++ g ∷ []) h ≡ (has_guide front h || (same_guide h g || false))
-among front g h = list_any-append (same_guide h) front (g ∷ [])
-
-or_false : (b : Bool) → (b || false) ≡ b
-or_false true = refl
-or_false false = refl
-
-one_less : (front : List GuideKind) (g : GuideKind) → has_guide front g ≡ false → kinds_left front ≡ kinds_left (front ++ g ∷ []) + 1
-unfolding kinds_left missing
-one_less front Add new = rw (among front Add Add, among front Add Ff, among front Add Lm, new, or_false (has_guide front Ff), or_false (has_guide front Lm)) (omega arith)
-one_less front Ff new = rw (among front Ff Add, among front Ff Ff, among front Ff Lm, new, or_false (has_guide front Add), or_false (has_guide front Lm)) (omega arith)
-one_less front Lm new = rw (among front Lm Add, among front Lm Ff, among front Lm Lm, new, or_false (has_guide front Add), or_false (has_guide front Ff)) (omega arith)
-
-few_guides : (allowed front gs : List GuideKind) → each_once allowed front gs ≡ true → length gs ≤ kinds_left front
-few_guides allowed front [] once = omega arith
-few_guides allowed front (g ∷ gs) once =
-    let parts = both (not (has_guide front g) && has_guide allowed g) (each_once allowed (front ++ g ∷ []) gs) once in
-    let two = both (not (has_guide front g)) (has_guide allowed g) parts.0 in
-    omega (arith, one_less front g (is_not (has_guide front g) two.0), few_guides allowed (front ++ g ∷ []) gs parts.1)
-
-three_left : kinds_left [] ≡ 3
-unfolding kinds_left missing
-three_left = refl
-
-at_most_three : (gs : List GuideKind) → each_once every_guide [] gs ≡ true → length gs ≤ 3
-at_most_three gs once = omega (arith, few_guides every_guide [] gs once, three_left)
+use Rattle.lama_num.proofs.BoolLaws.{or-false as or_false}
+use Rattle.conf_text.proofs.GuideKinds.{few_guides, at_most_three}
 
 -- a phase that was begun may be asked what it is
 

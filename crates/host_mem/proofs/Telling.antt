@@ -8,9 +8,7 @@ use Rattle.host_mem.specs.Journal.{Write, put_by, written_by, writing, after, ho
 use Rattle.host_mem.specs.Outcomes.{Logged, Effect, Goes, share_of}
 use Rattle.host_mem.specs.declared.children.Start.{Start}
 use Rattle.host_mem.specs.declared.journal.Change.{Change}
-
-same_files : (x y : Files) → Some x ≡ Some y → x ≡ y
-same_files x y e = cc
+use Rattle.lama_host.proofs.FileLaws.{same_files}
 
 same_past : (x y : List Files) → Some x ≡ Some y → x ≡ y
 same_past x y e = cc

@@ -31,3 +31,6 @@ get-remove_same files name = get-remove nat_list_cmp_total files name name ∙ r
 
 pub get-remove_other : (files : Files) (name other : List ℕ) → other ≢ name → get (remove files name) other ≡ get files other
 get-remove_other files name other e = get-remove nat_list_cmp_total files name other ∙ rw (apart other name e) refl
+
+pub same_files : (x y : Files) → Some x ≡ Some y → x ≡ y
+same_files x y e = cc

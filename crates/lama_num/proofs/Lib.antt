@@ -4,3 +4,4 @@ pub mod RowLaws
 pub mod DecimalLaws
 pub mod ListLaws
 pub mod NameLaws
+pub mod BoolLaws

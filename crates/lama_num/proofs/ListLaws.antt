@@ -1,7 +1,8 @@
 -- Laws of lists that every crate uses.
 use Rattle.std.specs.Prelude.{◌≡◌, ℕ, ◌<◌, List, [], ◌∷◌, ◌++◌, length, Bool, true, false, ◌&&◌, zero, suc, slice_get, Some, None}
-use Rattle.std.proofs.Common.{arith, refl}
-use Rattle.std.specs.List.{list_all}
+use Rattle.std.proofs.Common.{arith, refl, ◌⊎◌, ap, inl, inr}
+use Rattle.std.specs.List.{list_all, list_any}
+use Rattle.std.proofs.lemmas.Bool.{or_cases}
 
 -- both tests of two passed
 pub both : (a b : Bool) → (a && b) ≡ true → (a ≡ true) × (b ≡ true)
@@ -24,3 +25,25 @@ slice_get-append_front (x ∷ xs) ys (suc k) lt = slice_get-append_front xs ys k
 pub slice_get-append_last : {X : Type 0} (xs : List X) (x : X) → slice_get (xs ++ x ∷ []) (length xs) ≡ Some x
 slice_get-append_last [] x = refl
 slice_get-append_last (y ∷ ys) x = slice_get-append_last ys x
+
+pub get_push : {A : Type 0} (xs : List A) (x : A) (i : ℕ) (y : A) → slice_get (xs ++ x ∷ []) i ≡ Some y → (slice_get xs i ≡ Some y) ⊎ ((i ≡ length xs) × (y ≡ x))
+get_push [] x zero y at = inr (refl, (let is : y ≡ x = cc in is))
+get_push [] x (suc i) y at = absurd (cc)
+get_push (z ∷ zs) x zero y at = inl at
+get_push (z ∷ zs) x (suc i) y at = elim (get_push zs x i y at) [
+  | inl before ↦ inl before
+  | inr here ↦ inr ((let n : i ≡ length zs = here.0 in let m : suc i ≡ suc (length zs) = ap suc n in m), here.1)
+]
+
+-- an element that passes a test
+pub any_get : {X : Type 0} (p : X → Bool) (xs : List X) → list_any p xs ≡ true → (i : ℕ) × (x : X) × (slice_get xs i ≡ Some x) × (p x ≡ true)
+any_get p [] h = let k : false ≡ true = h in cc
+any_get p (x ∷ xs) h = elim (or_cases (p x) (list_any p xs) h) [
+  | inl here ↦ (0, x, refl, here)
+  | inr there ↦ let r = any_get p xs there in (suc r.0, r.1, r.2, r.3)
+]
+
+pub found_at : {X : Type 0} (xs : List X) (i : ℕ) → i < length xs → (x : X) × (slice_get xs i ≡ Some x)
+found_at [] i lt = absurd (omega arith)
+found_at (x ∷ xs) zero lt = (x, refl)
+found_at (x ∷ xs) (suc i) lt = found_at xs i (omega arith)

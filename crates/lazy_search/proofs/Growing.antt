@@ -15,7 +15,8 @@ use Rattle.search_log.specs.declared.turns.Pop.{Pop}
 use Rattle.search_log.specs.Phases.{Phase, lists_of, is_for_preferred, is_below}
 use Rattle.search_log.specs.Places.{Node, put_latest, is_expanded, estimate}
 use Rattle.search_log.specs.Pending.{pending, puts_of, is_put, item_for}
-use Rattle.search_log.proofs.Elements.{filter-same, slice_get-push_at, slice_get-push_other, slice_get-push_below}
+use Rattle.search_log.proofs.Elements.{filter-same, slice_get-push_other, slice_get-push_below}
+use Rattle.lama_num.proofs.ListLaws.{slice_get-append_last as slice_get-push_at}
 use Rattle.search_log.proofs.PendingLaws.{pending-visited}
 use Rattle.search_log.proofs.CounterLaws.{counter-visit}
 use Rattle.search_log.proofs.TurnLaws.{past_with}
@@ -27,10 +28,7 @@ use Rattle.lazy_search.specs.Rows.{row_put}
 use Rattle.lazy_search.specs.Shapes.{is_preferred_by}
 use Rattle.lazy_search.specs.Entries.{puts_in, operators_below, is_less, Expands}
 use Rattle.lazy_search.specs.Machines.{phase_of, row_of, ListsStand, TreeStands}
-
-and-true : (b : Bool) → (b && true) ≡ b
-and-true true = refl
-and-true false = refl
+use Rattle.lama_num.proofs.BoolLaws.{and-false, and-true}
 
 filter-filter : {X : Type 0} (a b : X → Bool) (xs : List X) → filter (λ x. a x && b x) xs ≡ filter a (filter b xs)
 filter-filter a b [] = refl
@@ -91,10 +89,6 @@ grown_expanded parts setting shape old new least new_least operators n expanded 
       shape_is = e.shape_is;
       kept = λ j l. e.kept j l ∙ sym (ap (λ (b : Bool). if b then min (slice_index least j) (estimate n.visit j) else slice_index least j) expanded);
     }
-
-and-false : (b : Bool) → (b && false) ≡ false
-and-false true = refl
-and-false false = refl
 
 pub grown_still : (phase : Phase) (old new : OpenLists) (least new_least : List ℕ) (n : Node) → is_expanded phase n.visit n.place ≡ false → n.progress ≡ false → new ≡ old → new_least ≡ least → Grown phase old least n new new_least
 grown_still phase old new least new_least n closed progress same same_least =

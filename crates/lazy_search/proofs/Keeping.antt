@@ -9,6 +9,7 @@ use Rattle.lazy_search.specs.declared.turns.Arrival.{Arrival}
 use Rattle.lazy_search.specs.declared.machine.Machine.{Machine}
 use Rattle.lazy_search.specs.Rows.{row_put}
 use Rattle.lazy_search.specs.Visits.{Grows, KeepsVisit}
+use Rattle.lama_num.proofs.BoolLaws.{and-false}
 
 pub on_ok : {T E : Type 0} (P Q : Type 0) (r : Result T E) → (P → Q) → OnOk r P → OnOk r Q
 on_ok P Q (Ok x) f p = f p
@@ -33,10 +34,6 @@ keeps_visit parts setting shape old arrival new number is few small rows tree vi
       states = states;
       grows = subst (λ (n : ℕ). Grows parts setting shape (numbered_row old arrival n) old.seen old.states.applicable.items old.lists old.least (not old.seen.dead && not arrival.is_goal) new.lists new.least) is grows;
     }
-
-pub and-false : (b : Bool) → (b && false) ≡ false
-and-false true = refl
-and-false false = refl
 
 pub opened : (dead goal : Bool) → dead ≡ false → goal ≡ false → (not dead && not goal) ≡ true
 opened dead goal a b = ap (λ (x : Bool). not x && not goal) a ∙ ap not b

@@ -22,7 +22,7 @@ use Rattle.search_log.specs.Lawful.{Logged, IsNext, GoesOn, result_of, is_full}
 use Rattle.search_log.specs.Ends.{EndsFull}
 use Rattle.search_log.specs.Clocks.{is_final}
 use Rattle.search_log.proofs.Sound.{Numbered}
-use Rattle.search_log.proofs.Elements.{slice_get-push_at}
+use Rattle.lama_num.proofs.ListLaws.{slice_get-append_last as slice_get-push_at}
 use Rattle.search_log.proofs.PendingLaws.{pending-popped, pending-other}
 use Rattle.search_log.specs.Counters.{LeastStand}
 use Rattle.search_log.proofs.CounterLaws.{counter-pop_same, counter-pop_other}

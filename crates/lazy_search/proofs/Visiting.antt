@@ -20,7 +20,8 @@ use Rattle.search_log.specs.Places.{Place, Node, Past, latest, node_at, is_expan
 use Rattle.search_log.specs.Pending.{counter}
 use Rattle.search_log.specs.Lawful.{Logged, GoesOn, is_full, result_of}
 use Rattle.search_log.proofs.Sound.{Sound}
-use Rattle.search_log.proofs.Elements.{slice_get-push_at, push_cases, none-at}
+use Rattle.search_log.proofs.Elements.{push_cases, none-at}
+use Rattle.lama_num.proofs.ListLaws.{slice_get-append_last as slice_get-push_at}
 use Rattle.search_log.proofs.TableLaws.{latest-push, put_latest-cases}
 use Rattle.search_log.specs.Counters.{LeastStand}
 use Rattle.search_log.proofs.CounterLaws.{progress_by_least, least_visited}
@@ -45,6 +46,7 @@ use Rattle.lazy_search.specs.Machines.{phase_of, row_of, packed_at, visit_at, Tr
 use Rattle.lazy_search.proofs.Reaching.{sound_of}
 use Rattle.lazy_search.proofs.Growing.{Grown, grown_expanded, grown_still, lists_visited, tree_visited, rows_visited}
 use Rattle.lazy_search.proofs.Taking.{goes_reached, next_turn, lists_popped}
+use Rattle.lama_num.proofs.BoolLaws.{and-false}
 
 -- what a machine notes of a visit, of which the guides have spoken
 pub record Noted (parts : Parts) (setting : Setting) (shape : Shape) (m : Machine) (arrival : Arrival) (seen : Seen) (pops : List Pop) (new : Machine) : Type 0 where
@@ -85,10 +87,6 @@ grown_by parts setting shape old new least new_least operators n true e are pref
     grown_expanded parts setting shape old new least new_least operators n e are preferred (progress ∙ ap (λ (b : Bool). b && is_less shape.guides least n.visit.seen.estimates) e) x
 grown_by parts setting shape old new least new_least operators n false e are preferred progress x =
     grown_still (phase_of parts setting shape) old new least new_least n e (progress ∙ ap (λ (b : Bool). b && is_less shape.guides least n.visit.seen.estimates) e) x.0 x.1
-
-and-false : (b : Bool) → (b && false) ≡ false
-and-false true = refl
-and-false false = refl
 
 -- how the lists grow by the visit that was noted
 pub noted_grows : (parts : Parts) (setting : Setting) (shape : Shape) (m new : Machine) (arrival : Arrival) (seen : Seen) (pops : List Pop) (nodes : List Node) (to : Place) → Noted parts setting shape m arrival seen pops new

@@ -22,7 +22,8 @@ use Rattle.lm_backchain.specs.Backchain.{has, is_open, conditions_of, IsPossible
 use Rattle.lm_backchain.specs.Landmarks.{node_holds, HoldsFirstAt}
 use Rattle.lm_backchain.proofs.FactLists.{any_has, has_any}
 use Rattle.lm_backchain.proofs.Runs.{run_first, run_step}
-use Rattle.lm_backchain.proofs.Sources.{Source, written_source}
+use Rattle.lm_backchain.proofs.Sources.{written_source}
+use Rattle.relaxed_task.proofs.ReachLaws.{Source}
 
 -- what an open fact isn't
 pub open_fact : (parts : Parts) (b : List Fact) (f : Fact) → is_open parts b ≡ true → has b f ≡ true → (is_derived parts.variables f.var ≡ false) × (holds (start_of parts) f ≡ false)

@@ -10,7 +10,8 @@ use Rattle.sas_task.specs.WellFormed.{is_fact}
 use Rattle.sas_task.specs.Facts.{same_fact, predicate_of}
 use Rattle.sas_task.specs.declared.contents.Fact.{Fact}
 use Rattle.sas_task.specs.declared.contents.Parts.{Parts}
-use Rattle.relaxed_task.specs.Facts.{facts_equal, over_facts}
+use Rattle.relaxed_task.specs.Facts.{over_facts}
+use Rattle.sas_task.proofs.FactLists.{same-true as facts_equal}
 use Rattle.relaxed_task.proofs.PlanLaws.{has_append, all_has, all_from}
 use Rattle.lm_graph.specs.Nodes.{is_ascending}
 use Rattle.lm_backchain.specs.Asked.{IsOf, IsFactOf, IsAsked, Collects, AllAsk, IsSetFor, all_have, AddsSet, HasSets, PutsSet, AreFacts}

@@ -5,16 +5,10 @@ use Rattle.std.proofs.lemmas.Bool.{or_cases, or_left}
 use Rattle.sas_task.specs.Facts.{same_fact}
 use Rattle.sas_task.specs.declared.contents.Fact.{Fact}
 use Rattle.relaxed_task.proofs.Elements.{any_at}
-use Rattle.relaxed_task.specs.Facts.{facts_equal, over_facts}
+use Rattle.relaxed_task.specs.Facts.{over_facts}
+use Rattle.sas_task.proofs.FactLists.{same-true as facts_equal}
 use Rattle.lm_backchain.specs.Backchain.{has}
-
--- an element that passes a test
-pub any_get : {X : Type 0} (p : X → Bool) (xs : List X) → list_any p xs ≡ true → (i : ℕ) × (x : X) × (slice_get xs i ≡ Some x) × (p x ≡ true)
-any_get p [] h = let k : false ≡ true = h in cc
-any_get p (x ∷ xs) h = elim (or_cases (p x) (list_any p xs) h) [
-  | inl here ↦ (0, x, refl, here)
-  | inr there ↦ let r = any_get p xs there in (suc r.0, r.1, r.2, r.3)
-]
+use Rattle.lama_num.proofs.ListLaws.{any_get}
 
 pub same_self : (a : Fact) → same_fact a a ≡ true
 same_self a = over_facts.itself a

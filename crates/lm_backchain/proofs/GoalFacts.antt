@@ -8,7 +8,8 @@ use Rattle.std.proofs.lemmas.Option.{none-some}
 use Rattle.sas_task.specs.Facts.{same_fact}
 use Rattle.sas_task.specs.declared.contents.Fact.{Fact}
 use Rattle.sas_task.specs.declared.contents.Parts.{Parts}
-use Rattle.relaxed_task.specs.Facts.{distinct_facts, facts_equal}
+use Rattle.relaxed_task.specs.Facts.{distinct_facts}
+use Rattle.sas_task.proofs.FactLists.{same-true as facts_equal}
 use Rattle.lm_graph.specs.declared.nodes.Node.{Node}
 use Rattle.lm_graph.specs.declared.nodes.Added.{Added}
 use Rattle.lm_graph.specs.declared.nodes.Added.TheVariants.{New, Known, Full}
@@ -18,7 +19,8 @@ use Rattle.lm_backchain.specs.Backchain.{has, Among, IsNode, goal, node_of, sing
 use Rattle.lm_backchain.specs.Growth.{HasGoals, Works}
 use Rattle.lm_backchain.proofs.FactLists.{at_has, has_at, has_self, has_one}
 use Rattle.lm_backchain.proofs.Coming.{Extends, extends, known_same}
-use Rattle.lm_backchain.proofs.Listing.{front_get, single_at, at_single, among_none}
+use Rattle.lm_backchain.proofs.Listing.{single_at, at_single, among_none}
+use Rattle.lm_graph.proofs.Lists.{get_front as front_get}
 
 -- which facts are kept of some
 

@@ -4,17 +4,13 @@ use Rattle.std.specs.Prelude.{insert}
 use Rattle.std.proofs.lemmas.Option.{same_Some, none-some, slice_get_read}
 use Rattle.sas_task.specs.declared.contents.Fact.{Fact}
 use Rattle.lm_backchain.specs.Backchain.{Among, singles}
+use Rattle.lm_graph.proofs.Lists.{get_front as front_get}
 
 pub push_cases : {X : Type 0} (xs : List X) (x : X) (i : ℕ) (y : X) → slice_get (xs ++ x ∷ []) i ≡ Some y → (slice_get xs i ≡ Some y) ⊎ ((x ≡ y) × (i ≡ length xs))
 push_cases [] x zero y at = inr (same_Some x y at, refl)
 push_cases [] x (suc i) y at = absurd (none-some y at)
 push_cases (z ∷ xs) x zero y at = inl at
 push_cases (z ∷ xs) x (suc i) y at = elim (push_cases xs x i y at) [ inl old ↦ inl old | inr p ↦ inr (p.0, ap suc p.1) ]
-
-pub front_get : {X : Type 0} (xs ys : List X) (i : ℕ) (x : X) → slice_get xs i ≡ Some x → slice_get (xs ++ ys) i ≡ Some x
-front_get [] ys i x at = absurd (none-some x at)
-front_get (y ∷ xs) ys zero x at = at
-front_get (y ∷ xs) ys (suc i) x at = front_get xs ys i x at
 
 pub back_get : {X : Type 0} (xs ys : List X) (i : ℕ) (x : X) → slice_get ys i ≡ Some x → slice_get (xs ++ ys) (length xs + i) ≡ Some x
 back_get [] ys i x at = let z : 0 + i ≡ i = omega arith in rw z at

@@ -4,7 +4,7 @@ use Rattle.std.specs.Prelude.{insert}
 use Rattle.std.proofs.lemmas.Bool.{and_parts, and_from, or_cases, or_left, or_right, eqb-true, eq-eqb, ltb-true, lt-ltb, cases_order, both_ways}
 use Rattle.sas_task.specs.Facts.{same_fact}
 use Rattle.sas_task.specs.declared.contents.Fact.{Fact}
-use Rattle.relaxed_task.specs.Facts.{facts_equal}
+use Rattle.sas_task.proofs.FactLists.{same-true as facts_equal}
 use Rattle.lm_graph.specs.Nodes.{is_less, is_ascending}
 use Rattle.lm_backchain.specs.Backchain.{has}
 use Rattle.lm_backchain.specs.Places.{IsPlaceFor, is_at}

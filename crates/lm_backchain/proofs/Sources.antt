@@ -6,15 +6,9 @@ use Rattle.std.proofs.lemmas.Bool.{and_parts, and_from, eqb-true, eq-eqb}
 use Rattle.sas_task.specs.States.{holds, fires, given, last_or, written}
 use Rattle.sas_task.specs.declared.contents.Effect.{Effect}
 use Rattle.sas_task.specs.declared.contents.Fact.{Fact}
-use Rattle.relaxed_task.specs.Facts.{fact_at, facts_equal}
-
--- an effect of some that fires in the state and gives the fact
-pub record Source (state : List ℕ) (effects : List Effect) (f : Fact) : Type 0 where
-  pub effect : Effect
-  pub place : ℕ
-  pub at : slice_get effects place ≡ Some effect
-  pub fires : fires state effect ≡ true
-  pub gives : effect.fact ≡ f
+use Rattle.relaxed_task.specs.Facts.{fact_at}
+use Rattle.sas_task.proofs.FactLists.{same-true as facts_equal}
+use Rattle.relaxed_task.proofs.ReachLaws.{Source}
 
 later : (state : List ℕ) (e : Effect) (effects : List Effect) (f : Fact) → Source state effects f → Source state (e ∷ effects) f
 later state e effects f s = record { effect = s.effect; place = suc s.place; at = s.at; fires = s.fires; gives = s.gives }

@@ -3,7 +3,7 @@ use Rattle.std.proofs.Common.{◌≡◌, ◌≢◌, ◌∙◌, sym, ap, refl, �
 use Rattle.std.specs.declared.alloc.Global.{Global}
 use Rattle.std.specs.List.{list_any}
 use Rattle.std.specs.Cmp.Lexicographic.{pointwise, pointwise_decides}
-use Rattle.std.proofs.lemmas.Bool.{eqb-true, eq-eqb, and_from, and_parts}
+use Rattle.std.proofs.lemmas.Bool.{eqb-true, eq-eqb, and_from, and_parts, or_parts as or_false}
 use Rattle.std.proofs.lemmas.List.{map-append, length-map}
 use Rattle.std.proofs.lemmas.List.Quantifiers.{position-Some}
 use Rattle.std.proofs.lemmas.Option.{slice_get-get_or}
@@ -12,6 +12,7 @@ use Rattle.sas_task.specs.declared.contents.Fact.{Fact}
 use Rattle.lm_graph.specs.declared.nodes.Node.{Node}
 use Rattle.lm_graph.specs.Keys.{AreKeys}
 use Rattle.lm_graph.specs.Nodes.{sets_of, IsAbsent}
+use Rattle.sas_task.proofs.FactLists.{same-refl as same_itself}
 
 pub facts_equal : (a b : Fact) → same_fact a b ≡ true → a ≡ b
 facts_equal a b h =
@@ -19,9 +20,6 @@ facts_equal a b h =
     let var = eqb-true a.var b.var both.0 in
     let val = eqb-true a.val b.val both.1 in
     λ i. record { var = var i; val = val i }
-
-pub same_itself : (a : Fact) → same_fact a a ≡ true
-same_itself a = and_from _ _ (eq-eqb a.var a.var refl) (eq-eqb a.val a.val refl)
 
 decides : (a b : Fact) → (same_fact a b ≡ true → a ≡ b) × (a ≡ b → same_fact a b ≡ true)
 decides a b = (facts_equal a b, λ e. and_from _ _ (eq-eqb a.var b.var (ap (λ (f : Fact). f.var) e)) (eq-eqb a.val b.val (ap (λ (f : Fact). f.val) e)))
@@ -49,10 +47,6 @@ found (d ∷ keys) nodes facts place are e =
     let same : key.items ≡ facts = sym ((same_facts facts key.items).0 at.1) in
     ap (λ (sets : List (List Fact)). slice_get sets place) (sym are.same)
     ∙ (item_at (d ∷ keys) place key (slice_get-get_or (d ∷ keys) place d at.0) ∙ ap (λ (fs : List Fact). Some fs) same)
-
-or_false : (a b : Bool) → (a || b) ≡ false → (a ≡ false) × (b ≡ false)
-or_false true b h = absurd (cc)
-or_false false b h = (refl, h)
 
 none_has : (keys : List (Vec Fact Global)) (facts : List Fact) → list_any (has_facts facts) keys ≡ false → (place : ℕ) → slice_get (items_of keys) place ≢ Some facts
 none_has [] facts h place e = cc

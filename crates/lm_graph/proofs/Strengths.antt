@@ -10,6 +10,7 @@ use Rattle.lm_graph.specs.Rows.{kind_in, node_at, past_end, IsAscending, IsAt}
 use Rattle.lm_graph.specs.Marks.{is_taken}
 use Rattle.lm_graph.proofs.Edges.{kind_in-none}
 use Rattle.lm_graph.proofs.Places.{kind_at}
+use Rattle.lama_num.proofs.BoolLaws.{or-false as or_false}
 
 -- the order of the edge at a place
 pub kind_at_place : (row : List Edge) (place : ℕ) (edge : Edge) → IsAscending row → slice_get row place ≡ Some edge → kind_in row edge.node ≡ Some edge.kind
@@ -31,10 +32,6 @@ none_strong : (weakest : Order) → is_strong weakest None ≡ false
 none_strong Reasonable = refl
 none_strong Natural = refl
 none_strong GreedyNecessary = refl
-
-or_false : (b : Bool) → (b || false) ≡ b
-or_false true = refl
-or_false false = refl
 
 -- an edge that is strong enough is there exactly where the order is that strong
 pub taken-strong : (row : List Edge) (weakest : Order) (i : ℕ) → IsAscending row → is_taken row weakest i ≡ is_strong weakest (kind_in row i)

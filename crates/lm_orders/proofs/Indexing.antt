@@ -12,7 +12,9 @@ use Rattle.lm_graph.specs.declared.fact_table.FactTable.{FactTable}
 use Rattle.lm_graph.specs.FactTables.{numbers_at, AddsNumber}
 use Rattle.lm_orders.specs.Givers.{Indexes}
 use Rattle.lm_orders.specs.Tables.{share, mutex_by}
-use Rattle.lm_orders.proofs.Listing.{both_ways, any_get, row_past, row_last, row_other, row_place, row_read}
+use Rattle.lm_orders.proofs.Listing.{row_past, row_last, row_other, row_place, row_read}
+use Rattle.lama_num.proofs.ListLaws.{any_get}
+use Rattle.lama_num.proofs.BoolLaws.{both_ways}
 
 pub indexes_none : (table : FactTable) → ((fact : Fact) → numbers_at table fact ≡ []) → Indexes [] table
 indexes_none table none = record { each = λ fact n. ap (list_any (nat_eq n)) (none fact) }

@@ -8,29 +8,9 @@ use Rattle.std.proofs.lemmas.Option.{same_Some, none-some}
 use Rattle.lama_num.specs.Rows.{row_at}
 use Rattle.sas_task.specs.Facts.{same_fact, has_fact}
 use Rattle.sas_task.specs.declared.contents.Fact.{Fact}
-
-pub both_ways : (a b : Bool) → (a ≡ true → b ≡ true) → (b ≡ true → a ≡ true) → a ≡ b
-both_ways true b there back = sym (there refl)
-both_ways false true there back = back refl
-both_ways false false there back = refl
-
-pub facts_equal : (a b : Fact) → same_fact a b ≡ true → a ≡ b
-facts_equal a b h =
-    let t = and_parts _ _ h in
-    let v = eqb-true a.var b.var t.0 in
-    let w = eqb-true a.val b.val t.1 in
-    λ i. record { var = v i; val = w i }
-
-pub same_self : (a : Fact) → same_fact a a ≡ true
-same_self a = and_from _ _ (eq-eqb a.var a.var refl) (eq-eqb a.val a.val refl)
-
--- an element that passes a test, and its place
-pub any_get : {X : Type 0} (p : X → Bool) (xs : List X) → list_any p xs ≡ true → (i : ℕ) × (x : X) × (slice_get xs i ≡ Some x) × (p x ≡ true)
-any_get p [] h = let k : false ≡ true = h in cc
-any_get p (x ∷ xs) h = elim (or_cases (p x) (list_any p xs) h) [
-  | inl here ↦ (0, x, refl, here)
-  | inr there ↦ let r = any_get p xs there in (suc r.0, r.1, r.2, r.3)
-]
+use Rattle.lama_num.proofs.BoolLaws.{and-false as and_false, both_ways}
+use Rattle.lama_num.proofs.ListLaws.{any_get}
+use Rattle.sas_task.proofs.FactLists.{same-refl as same_self, same-true as facts_equal}
 
 -- what holds of one of some facts
 pub any_has : (p : Fact → Bool) (facts : List Fact) (fact : Fact) → has_fact facts fact ≡ true → p fact ≡ true → list_any p facts ≡ true
@@ -43,10 +23,6 @@ pub has_any : (p : Fact → Bool) (facts : List Fact) → list_any p facts ≡ t
 has_any p facts h =
     let r = any_get p facts h in
     (r.1, any_passes_from_place (λ f. same_fact f r.1) facts r.0 r.1 r.2 (same_self r.1), r.3)
-
-and_false : (b : Bool) → (b && false) ≡ false
-and_false true = refl
-and_false false = refl
 
 -- the facts that are kept
 pub has_kept : (p : Fact → Bool) (facts : List Fact) (fact : Fact) → has_fact (filter p facts) fact ≡ (has_fact facts fact && p fact)

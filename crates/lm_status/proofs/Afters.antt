@@ -11,7 +11,8 @@ use Rattle.lm_graph.specs.Graphs.{Content, row_of, kind_of}
 use Rattle.lm_graph.specs.Turned.{kinds_from, AreSuccessors}
 use Rattle.lm_status.specs.Accepted.{nodes_in}
 use Rattle.lm_status.specs.Estimates.{after_of}
-use Rattle.lm_status.proofs.Ranges.{from_kept, to_kept, both_ways}
+use Rattle.lm_status.proofs.Ranges.{from_kept, to_kept}
+use Rattle.lama_num.proofs.BoolLaws.{both_ways}
 
 abbrev pub is_greedy : Edge → Bool
 is_greedy edge = is_strong GreedyNecessary (Some edge.kind)

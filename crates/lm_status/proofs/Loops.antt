@@ -9,6 +9,7 @@ use Rattle.lm_graph.specs.Graphs.{Content}
 use Rattle.lm_status.specs.Accepted.{facts_of, opens, accepted_next}
 use Rattle.bit_rows.specs.Rows.{has}
 use Rattle.lm_status.specs.Rows.{StandsFor}
+use Rattle.lama_num.proofs.BoolLaws.{or-false as or_false}
 
 -- what was added to a row for the nodes below a number
 pub record AddedBelow (n : ℕ) (row : List ℕ) (before test : ℕ → Bool) : Type 0 where
@@ -16,10 +17,6 @@ pub record AddedBelow (n : ℕ) (row : List ℕ) (before test : ℕ → Bool) : 
 
 cases : (m n : ℕ) → (m < n) ⊎ ((m ≡ n) ⊎ (n < m))
 cases m n = grind arith
-
-or_false : (b : Bool) → (b || false) ≡ b
-or_false true = refl
-or_false false = refl
 
 pub none_below : (row : List ℕ) (before test : ℕ → Bool) → ((m : ℕ) → has row m ≡ before m) → AddedBelow 0 row before test
 none_below row before test same = record { each = λ m. let none : nat_lt m 0 ≡ false = grind (arith, nat_tests) in rw (none, or_false (before m)) (same m) }

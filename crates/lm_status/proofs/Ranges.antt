@@ -2,6 +2,7 @@
 use Rattle.std.proofs.Common.{◌≡◌, ◌∙◌, sym, ap, refl, ℕ, zero, suc, ◌+◌, ◌<◌, ◌≤◌, ◌∷◌, Bool, true, false, ◌&&◌, inl, inr, filter, if◌then◌else◌, arith}
 use Rattle.std.specs.List.{list_any, range_with_len}
 use Rattle.std.proofs.lemmas.Bool.{cases_eq, or_cases, or_left, or_right}
+use Rattle.lama_num.proofs.BoolLaws.{both_ways}
 
 -- a number of a range passes a test
 pub record Passes (a n : ℕ) (test : ℕ → Bool) : Type 0 where
@@ -50,8 +51,3 @@ to_kept a (suc n) keep test m from below kept passes = elim (cases_eq m a) [
     more : (b : Bool) → list_any test (filter keep (range_with_len (a + 1) n)) ≡ true → list_any test (if b then a ∷ filter keep (range_with_len (a + 1) n) else filter keep (range_with_len (a + 1) n)) ≡ true
     more true rest = or_right (test a) _ rest
     more false rest = rest
-
-pub both_ways : (a b : Bool) → (a ≡ true → b ≡ true) → (b ≡ true → a ≡ true) → a ≡ b
-both_ways true b there back = sym (there refl)
-both_ways false true there back = back refl
-both_ways false false there back = refl

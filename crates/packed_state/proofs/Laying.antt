@@ -5,6 +5,7 @@ use Rattle.sas_task.specs.WellFormed.{range_of}
 use Rattle.sas_task.specs.declared.contents.Variable.{Variable}
 use Rattle.packed_state.specs.Packing.{IsLaid}
 use Rattle.packed_state.specs.declared.fields.Field.{Field}
+use Rattle.lama_num.proofs.ListLaws.{get_push}
 
 -- fields up to a place in a word
 pub record LaidTo (fs : List Field) (word used : ℕ) : Type 0 where
@@ -14,15 +15,6 @@ pub record LaidTo (fs : List Field) (word used : ℕ) : Type 0 where
 
 pub laid_none : LaidTo [] 0 0
 laid_none = record { fits = λ i f at. absurd (cc); last = λ i f at same. absurd (cc); apart = λ i j f g lt at. absurd (cc) }
-
-get_push : {A : Type 0} (xs : List A) (x : A) (i : ℕ) (y : A) → slice_get (xs ++ x ∷ []) i ≡ Some y → (slice_get xs i ≡ Some y) ⊎ ((i ≡ length xs) × (y ≡ x))
-get_push [] x zero y at = inr (refl, (let is : y ≡ x = cc in is))
-get_push [] x (suc i) y at = absurd (cc)
-get_push (z ∷ zs) x zero y at = inl at
-get_push (z ∷ zs) x (suc i) y at = elim (get_push zs x i y at) [
-  | inl before ↦ inl before
-  | inr here ↦ inr ((let n : i ≡ length zs = here.0 in let m : suc i ≡ suc (length zs) = ap suc n in m), here.1)
-]
 
 -- one field more
 pub laid_more : (fs : List Field) (word used : ℕ) (f : Field) → LaidTo fs word used → word ≤ f.word → (f.word ≡ word → f.shift ≡ used) → f.shift < 64 → f.shift + f.bits ≤ 64 → f.bits ≤ 20 →

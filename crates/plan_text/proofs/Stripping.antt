@@ -8,9 +8,7 @@ use Rattle.std.proofs.lemmas.Bool.Decides.{nat_tests}
 use Rattle.std.proofs.lemmas.List.{reverse-append, reverse-reverse}
 use Rattle.lama_num.specs.Decimals.{is_decimal}
 use Rattle.plan_text.specs.PlanLines.{behind, before}
-
-nat_eq-same : (n : ℕ) → nat_eq n n ≡ true
-nat_eq-same n = grind (arith, nat_tests)
+use Rattle.lama_num.proofs.BoolLaws.{nat_eq-refl as nat_eq-same}
 
 pub behind-append : (front rest : List ℕ) → behind front (front ++ rest) ≡ Some rest
 behind-append [] rest = refl

@@ -5,7 +5,7 @@ use Rattle.std.proofs.Common.{inl, inr}
 use Rattle.std.specs.List.{list_all, list_any}
 use Rattle.std.specs.Str.{IsUtf8, is_utf8}
 use Rattle.std.proofs.Math.Seq.{take-append_seam, drop-append_seam}
-use Rattle.std.proofs.lemmas.Bool.{eqb-true}
+use Rattle.std.proofs.lemmas.Bool.{eqb-true, not-true as is_not}
 use Rattle.std.proofs.lemmas.List.{reverse-append, reverse-reverse}
 use Rattle.std.proofs.lemmas.Str.{IsUtf8-take, IsUtf8-drop, IsUtf8-from_is_utf8, is_utf8-from_IsUtf8, IsCharBoundary-before_ascii, IsCharBoundary-after_ascii}
 use Rattle.lama_num.proofs.ListLaws.{both}
@@ -88,10 +88,6 @@ first_feed (b ∷ bs) = by_test (nat_eq b 10) refl (first_feed bs)
     by_test true e found = inr (record { line = []; rest = bs; bare = refl; is = ap (λ (c : ℕ). c ∷ bs) (eqb-true b 10 e) })
     by_test false e (inl bare) = inl (rw (e, bare) refl)
     by_test false e (inr at) = inr (record { line = b ∷ at.line; rest = at.rest; bare = rw (e, at.bare) refl; is = ap (λ (bytes : List ℕ). b ∷ bytes) at.is })
-
-is_not : (b : Bool) → not b ≡ true → b ≡ false
-is_not true e = let k : false ≡ true = e in cc
-is_not false e = refl
 
 one_line : (b : ℕ) (bs : List ℕ) → has_no_feed (b ∷ bs) ≡ true → cut_lines (b ∷ bs) ≡ (b ∷ bs) ∷ []
 one_line b [] bare = rw (is_not (nat_eq b 10) (both (not (nat_eq b 10)) true bare).0) refl

@@ -22,12 +22,14 @@ use Rattle.sas_task.specs.declared.contents.Variable.{Variable}
 use Rattle.relaxed_task.specs.declared.relaxation.Lists.{Lists}
 use Rattle.relaxed_task.specs.declared.unary.Unary.{Unary}
 use Rattle.relaxed_task.specs.AdditiveCosts.{IsAdditiveCost}
-use Rattle.relaxed_task.specs.Facts.{fact_at, facts_of, facts_equal, default_facts, start_facts, over_facts, distinct_facts, UnaryOperator, from_effect, from_rule, unary_operators}
+use Rattle.relaxed_task.specs.Facts.{fact_at, facts_of, default_facts, start_facts, over_facts, distinct_facts, UnaryOperator, from_effect, from_rule, unary_operators}
+use Rattle.sas_task.proofs.FactLists.{same-true as facts_equal}
 use Rattle.relaxed_task.proofs.NumberingLaws.{IsNumbering, HasPlan, are_there, sum_of_map, all_once, any_once, each_once_kept, plan_kept}
 use Rattle.relaxed_task.specs.NumberingLaws.{cost_kept}
 use Rattle.relaxed_task.specs.Numbers.{number_by, number_of, numbers_by, numbers_of, costs_by, IsNumbered, over_numbers, distinct, by_number, numbered_unaries, is_below}
 use Rattle.relaxed_task.specs.Relaxations.{IsOffsets, IsRelaxed}
 use Rattle.relaxed_task.specs.Relaxing.{IsCost, IsSupported, sum_of}
+use Rattle.sas_task.specs.Refusals.{is_sound_rule as rule_facts}
 
 -- how many values a variable has
 abbrev range : Variable → ℕ
@@ -198,9 +200,6 @@ effect_facts variables effect = list_all (is_fact variables) effect.conds && is_
 
 abbrev pub operator_facts : List Variable → Operator → Bool
 operator_facts variables operator = list_all (is_fact variables) operator.pre && list_all (effect_facts variables) operator.effects
-
-abbrev pub rule_facts : List Variable → Rule → Bool
-rule_facts variables rule = list_all (is_fact variables) rule.conds && is_fact variables rule.head
 
 -- a test that follows from another, and one from that of each place
 pub weaker : {X : Type 0} (p q : X → Bool) (xs : List X) → ((x : X) → p x ≡ true → q x ≡ true) → list_all p xs ≡ true → list_all q xs ≡ true

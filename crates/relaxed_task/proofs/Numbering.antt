@@ -20,7 +20,8 @@ use Rattle.sas_task.specs.declared.contents.Parts.{Parts}
 use Rattle.relaxed_task.specs.declared.unary.Unary.{Unary}
 use Rattle.relaxed_task.specs.Facts.{unary_operators, fact_at, default_facts, UnaryOperator, distinct_facts, from_effect, from_rule}
 use Rattle.relaxed_task.specs.Numbers.{number_by, number_of, numbers_of, distinct, by_number, numbered_unaries, is_unary_below}
-use Rattle.relaxed_task.proofs.NumberLaws.{unary_there, unary_operators_there, goals_there, numbers_below, number_by-is, number_below, is_numbered, state_fact, numbers_same, by_pairs, defaults_there, distinct_numbers, weaker, effect_facts, operator_facts, rule_facts, operators_facts, rules_facts}
+use Rattle.relaxed_task.proofs.NumberLaws.{unary_there, unary_operators_there, goals_there, numbers_below, number_by-is, number_below, is_numbered, state_fact, numbers_same, by_pairs, defaults_there, distinct_numbers, weaker, effect_facts, operator_facts, operators_facts, rules_facts}
+use Rattle.sas_task.specs.Refusals.{is_sound_rule as rule_facts}
 use Rattle.relaxed_task.specs.Relaxations.{IsOffsets, IsRelaxed, IsSound}
 use Rattle.relaxed_task.specs.declared.relaxation.Lists.{Lists}
 use Rattle.relaxed_task.specs.Making.{has_number, have_numbers, effect_has_numbers, operator_has_numbers, rule_has_numbers, all_numbers_by, effect_by, rule_by, operator_by, operators_by, defaults_by}

@@ -24,7 +24,8 @@ use Rattle.relaxed_task.specs.AdditiveCosts.{IsAdditiveCost, AreAdditiveCosts}
 use Rattle.relaxed_task.specs.CostLaws.{finite_reached, infinite_unreached}
 use Rattle.relaxed_task.proofs.Elements.{any_at}
 use Rattle.relaxed_task.specs.Estimates.{is_finite}
-use Rattle.relaxed_task.specs.Facts.{fact_at, facts_of, facts_equal, default_facts, start_facts, over_facts, from_effect, from_rule, unary_operators}
+use Rattle.relaxed_task.specs.Facts.{fact_at, facts_of, default_facts, start_facts, over_facts, from_effect, from_rule, unary_operators}
+use Rattle.sas_task.proofs.FactLists.{same-true as facts_equal}
 use Rattle.relaxed_task.proofs.NumberLaws.{everything, fact_within}
 use Rattle.relaxed_task.proofs.NumberingLaws.{all_once, mapped}
 use Rattle.relaxed_task.proofs.PlanLaws.{all_has, all_from, has_append}
@@ -107,7 +108,7 @@ dead_exactly parts kind state costs formed each = (
 -- Where the facts of a state after effects, or with defaults, come from.
 
 -- an effect of some that fires in the state and gives the fact
-record Source (state : List ℕ) (effects : List Effect) (f : Fact) : Type 0 where
+pub record Source (state : List ℕ) (effects : List Effect) (f : Fact) : Type 0 where
   effect : Effect
   place : ℕ
   at : slice_get effects place ≡ Some effect

@@ -13,6 +13,7 @@ use Rattle.sas_task.specs.declared.contents.Operator.{Operator}
 use Rattle.sas_task.specs.declared.contents.Parts.{Parts}
 use Rattle.sas_task.specs.declared.contents.Rule.{Rule}
 use Rattle.relaxed_task.specs.Relaxing.{UnaryOver, each_once}
+use Rattle.sas_task.proofs.FactLists.{same-true as facts_equal}
 
 -- the fact that a variable has a value
 abbrev pub fact_at : ℕ → ℕ → Fact
@@ -36,13 +37,6 @@ pub record UnaryOperator : Type 0 where
   pub conds : List Fact
   pub gives : Fact
   pub cost : ℕ
-
-pub facts_equal : (a b : Fact) → same_fact a b ≡ true → a ≡ b
-facts_equal a b h =
-    let t = and_parts _ _ h in
-    let v = eqb-true a.var b.var t.0 in
-    let w = eqb-true a.val b.val t.1 in
-    λ i. record { var = v i; val = w i }
 
 abbrev pub over_facts : UnaryOver Fact UnaryOperator
 over_facts = record {

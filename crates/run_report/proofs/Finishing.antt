@@ -20,10 +20,7 @@ use Rattle.run_report.specs.Searches.{Run}
 use Rattle.run_report.specs.Runs.{IsUnderWay}
 use Rattle.run_report.proofs.Going.{events_between}
 use Rattle.run_report.proofs.Completing.{taken}
-
-or_true : (b : Bool) → (b || true) ≡ true
-or_true true = refl
-or_true false = refl
+use Rattle.lama_num.proofs.BoolLaws.{or-true as or_true}
 
 rounds_told : (turn : Turn) (offered : List Offered) (round entry : ℕ) (how : Part) (last : Bool) → filter_map round_in (map (offer_of turn) offered ++ ends_as (turn_of round entry) how last ∷ []) ≡ round ∷ []
 rounds_told turn [] round entry how last = refl

@@ -4,4 +4,4 @@ mod Finishing
 mod Going
 mod Lists
 mod Phasing
-mod Planning
+pub mod Planning

@@ -8,7 +8,7 @@ use Rattle.driver_core.specs.Keeping.{is_below}
 use Rattle.sas_task.specs.Runs.{IsPlanOf}
 use Rattle.run_report.specs.Plans.{AreCheaper, ArePlans}
 
-cheaper-push : (bound : Option ℕ) (kept : List Kept) (plan : Kept) → AreCheaper bound kept →
+pub cheaper-push : (bound : Option ℕ) (kept : List Kept) (plan : Kept) → AreCheaper bound kept →
     is_below (last_or bound (map (λ (other : Kept). other.cost) kept)) plan.cost ≡ true → AreCheaper bound (kept ++ plan ∷ [])
 cheaper-push bound [] plan all below = (below, tt)
 cheaper-push bound (first ∷ kept) plan all below = (all.0, cheaper-push (Some first.cost) kept plan all.1 below)

@@ -24,7 +24,7 @@ use Rattle.run_words.specs.declared.line.Given.{Given}
 use Rattle.run_words.specs.declared.faults.WordsError.{WordsError}
 use Rattle.run_words.specs.declared.faults.WordsError.TheVariants.{Asked, Bad, NoMemory}
 use Rattle.run_words.specs.declared.faults.WordsFault.TheVariants.{Refused}
-use Rattle.run_words.proofs.Rules.{fault_is, flag_arg, found_is, option_arg, rows_from, rules, task_arg}
+use Rattle.run_words.proofs.Rules.{fault_is, flag_arg, found_is, option_arg, rows_from, rules, task_arg, if_same}
 use Rattle.run_words.proofs.Steps.{Nothing, at_no_row, row_by, rows_by}
 use Rattle.run_words.proofs.Walking.{Agrees, agreement, line_with}
 
@@ -80,10 +80,6 @@ or_more (Some r) b c row = refl
 flag_defaults : (names : List Text) (rows : List Row) (id : Text) → find (has_id id) (fold with_default rows (map flag_arg names)) ≡ option_or (find (has_id id) rows) (if is_among names id then Some (default_row id) else None)
 flag_defaults [] rows id = sym (or_none _)
 flag_defaults (n ∷ names) rows id = flag_defaults names (with_default rows (flag_arg n)) id ∙ rw (flag_default rows n id) (or_more (find (has_id id) rows) (bytes_eq n id) (is_among names id) (default_row id))
-
-if_same : {A : Type 0} (b : Bool) (x : A) → (if b then x else x) ≡ x
-if_same true x = refl
-if_same false x = refl
 
 option_defaults : (names : List Text) (rows : List Row) (rest : List Rule) → fold with_default rows (map option_arg names ++ rest) ≡ fold with_default rows rest
 option_defaults [] rows rest = refl

@@ -19,6 +19,7 @@ use Rattle.run_words.specs.declared.request.Chosen.{Chosen}
 use Rattle.run_words.specs.declared.request.Chosen.TheVariants.{Alias, Portfolio, Search}
 use Rattle.run_words.specs.declared.request.Request.{Request}
 use Rattle.run_words.specs.declared.values.Values.{Values}
+use Rattle.std.proofs.lemmas.Bool.{or_parts as or_first}
 
 last_of : (text front : Text) (last : ℕ) → IsLastAndRest text last front → slice_get text (length text - 1) ≡ Some last
 last_of text front last ends = let n : length text - 1 ≡ length front = omega (arith, ends.1) in rw (n, ends.0) (slice_get-append_last front last)
@@ -47,12 +48,6 @@ module _ (line : Line) (values : Values) (work : Chosen) (task : has_task line �
   pub request_clashes : clashes values.base line ≡ true → or_bad (request_by line) ≡ Err (Bad NameClash)
   unfolding request_by
   request_clashes clash = rw (task, one, read, chosen_is (chosen line.alias line.search line.portfolio) work found, limited, clash) refl
-
--- what holds of an accepted request
-
-or_first : (a b : Bool) → (a || b) ≡ false → (a ≡ false) × (b ≡ false)
-or_first true b e = let k : true ≡ false = e in cc
-or_first false b e = (refl, e)
 
 fits_alias : (found : Option AliasName) (base : Text) (limit : Option ℕ) (work : Chosen) → if_alias found ≡ Ok work → FitsWork base limit work
 fits_alias None base limit work is = let k : ◌≡◌ {A = Result Chosen WordsFault} (Err UnknownAlias) (Ok work) = is in cc

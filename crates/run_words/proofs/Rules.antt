@@ -13,6 +13,8 @@ use Rattle.clap.specs.declared.builder.action.ArgAction.TheVariants.{Set, SetTru
 use Rattle.clap.specs.declared.builder.value_parser.ValueParser.TheVariants as parser
 use Rattle.run_words.specs.Command.{the_command}
 use Rattle.run_words.specs.Grammar.{option_names, flag_names, is_among}
+use Rattle.lama_num.proofs.BoolLaws.{or-false as or_false}
+use Rattle.std.proofs.lemmas.Bool.{not-true as is_true}
 
 -- an argument with one value
 abbrev pub value_arg : Option Text → Option ℕ → Text → Rule
@@ -51,10 +53,6 @@ find_among p arg name tests (n ∷ names) rest = by_test (bytes_eq n name) refl 
     by_test true e more = let same : n ≡ name = (bytes_eq-Decides n name).0 e in rw (tests n, e) (ap (λ m. Some (arg m)) same)
     by_test false e more = rw (tests n, e) more
 
-or_false : (b : Bool) → (b || false) ≡ b
-or_false true = refl
-or_false false = refl
-
 abbrev has_name : Text → Rule → Bool
 has_name name a = not (is_some a.index) && has_long a name
 
@@ -79,10 +77,6 @@ among_all p (n ∷ names) name all among = let parts = both (p n) (list_all p na
     by_test : (b : Bool) → bytes_eq n name ≡ b → p n ≡ true → (b || is_among names name) ≡ true → (is_among names name ≡ true → p name ≡ true) → p name ≡ true
     by_test true e first there more = let same : n ≡ name = (bytes_eq-Decides n name).0 e in rw (← same) first
     by_test false e first there more = more there
-
-is_true : (b : Bool) → not b ≡ true → b ≡ false
-is_true true e = let k : false ≡ true = e in cc
-is_true false e = refl
 
 pub option_no_flag : (name : Text) → is_among option_names name ≡ true → is_among flag_names name ≡ false
 option_no_flag name known = is_true _ (among_all (λ n. not (is_among flag_names n)) option_names name refl known)
@@ -112,7 +106,7 @@ fault_from w words = or_else (walk_fault shape [] w words) (settle_fault rules f
 abbrev pub rows_from : Walk → List Text → List Row
 rows_from w words = (settled rules (fold (walked rules []) w words).held).rows
 
-if_same : {A : Type 0} (b : Bool) (x : A) → (if b then x else x) ≡ x
+pub if_same : {A : Type 0} (b : Bool) (x : A) → (if b then x else x) ≡ x
 if_same true x = refl
 if_same false x = refl
 

@@ -14,6 +14,7 @@ use Rattle.clap.specs.declared.parser.matches.ValueSource.TheVariants.{CommandLi
 use Rattle.run_words.specs.Grammar.{Opens, Use, Whole, Wrong, flag_names, gives, is_among, named, option_names}
 use Rattle.run_words.proofs.Rules.{by_long, first_place, flag_arg, option_arg, option_by_id, option_no_flag, rules, second_place, shape, value_arg}
 use Rattle.run_words.proofs.WordForms.{IsLong, IsPlain}
+use Rattle.lama_num.proofs.BoolLaws.{and-false as and_false, and-true as and_true}
 
 -- uses and their rows
 
@@ -43,10 +44,6 @@ at_no_row id change missing (r ∷ rows) none = by_test (bytes_eq r.id id) refl 
 pub record Adds (arg : Rule) (values : List Text) (one : Use) : Type 0 where
   pub fault : (rows : List Row) → use_fault false arg values rows ≡ (if has_row one.name rows then kind.ArgumentConflict ∷ [] else [])
   pub rows : (rows : List Row) → has_row one.name rows ≡ false → used arg values rows ≡ rows ++ row_by one ∷ []
-
-and_true : (b : Bool) → (b && true) ≡ b
-and_true true = refl
-and_true false = refl
 
 or_none : (b : Bool) (kinds : Kinds) → or_else (if b then kinds else []) [] ≡ (if b then kinds else [])
 or_none true [] = refl
@@ -159,10 +156,6 @@ value_read done name word tasked plain known =
       fault = rw (plain.dashes, plain.long, plain.short) refl;
       walk = rw (plain.dashes, plain.long, plain.short, found, same_name name) refl;
     }
-
-and_false : (b : Bool) → (b && false) ≡ false
-and_false true = refl
-and_false false = refl
 
 -- it is the task
 pub task_read : (done after : List Use) (pending : Pending) (word : Text) → IsPlain word → Settles done pending after → Goes (walk_at done pending false) word (walk_at after (Holds (codes "TASK") word) true)

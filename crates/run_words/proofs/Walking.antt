@@ -13,6 +13,7 @@ use Rattle.run_words.specs.Grammar.{Text, Use, Wrong, and_then, begins_with_dash
 use Rattle.run_words.proofs.Rules.{fault_from, option_by_id, option_no_flag, option_no_task, flag_no_task, rows_from, rules, shape, task_by_id}
 use Rattle.run_words.proofs.Steps.{Fails, Goes, Holds, IsValued, IsWhole, Nothing, Pending, Settles, fails_again, fails_waiting, flag_given, held_by, held_waiting, names_of, option_given, option_opened, rows_by, second_task, settles_nothing, settles_value, task_fails, task_read, unknown_fails, unsettled_fails, value_read, walk_at, walk_waiting, whole_again, whole_goes}
 use Rattle.run_words.proofs.WordForms.{HasForm, IsLong, IsPlain, form_of}
+use Rattle.lama_num.proofs.BoolLaws.{and-false as and_false, or-true as or_true}
 
 -- names that stand once
 
@@ -49,17 +50,9 @@ among_front (n ∷ names) more m there = by_test (bytes_eq n m) refl there (amon
     by_test true e h behind = rw e refl
     by_test false e h behind = rw e (behind h)
 
-or_true : (b : Bool) → (b || true) ≡ true
-or_true true = refl
-or_true false = refl
-
 among_middle : (names more : List Text) (m : Text) → is_among (names ++ m ∷ more) m ≡ true
 among_middle [] more m = rw ((bytes_eq-Decides m m).1 refl) refl
 among_middle (n ∷ names) more m = rw (among_middle names more m) (or_true (bytes_eq n m))
-
-and_false : (b : Bool) → (b && false) ≡ false
-and_false true = refl
-and_false false = refl
 
 -- a name that stands twice
 twice : (names more : List Text) (name : Text) → is_among names name ≡ true → is_once (names ++ name ∷ more) ≡ false

@@ -13,13 +13,11 @@ use Rattle.sas_task.proofs.TestLaws.{and_true, all-one, all-two}
 use Rattle.sas_task.specs.declared.contents.Fact.{Fact}
 use Rattle.sas_task.specs.declared.contents.Effect.{Effect}
 use Rattle.sas_reader.specs.TaskText.{preconditions}
+use Rattle.std.proofs.lemmas.Bool.{eqb-true as same_number}
 
 -- how many facts are on a variable
 abbrev on : ℕ → List Fact → ℕ
 on var facts = length (on_variable var facts)
-
-same_number : (a b : ℕ) → nat_eq a b ≡ true → a ≡ b
-same_number a b is = grind (arith, nat_tests, is)
 
 itself : (a : ℕ) → nat_eq a a ≡ true
 itself a = grind (arith, nat_tests)

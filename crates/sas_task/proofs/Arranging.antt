@@ -11,6 +11,8 @@ use Rattle.sas_task.specs.Order.{on_variable, effects_on, is_prevail, prevail}
 use Rattle.sas_task.specs.declared.contents.Fact.{Fact}
 use Rattle.sas_task.specs.declared.contents.Effect.{Effect}
 use Rattle.sas_task.proofs.FactLists.{same-refl, same-true, isn't, has-append, filter-same, Apart, apart-filter}
+use Rattle.lama_num.proofs.BoolLaws.{nat_eq-refl}
+use Rattle.std.proofs.lemmas.Bool.{eqb-true as same_numbers}
 
 -- filters
 
@@ -67,9 +69,6 @@ filter-all p (x ∷ xs) =
 abbrev pub on : ℕ → Fact → Bool
 on var f = nat_eq f.var var
 
-pub same_numbers : (a b : ℕ) → nat_eq a b ≡ true → a ≡ b
-same_numbers a b is = grind (arith, nat_tests, is)
-
 -- a fact that is on a variable
 pub on-var : (var : ℕ) (xs : List Fact) (f : Fact) → has_fact (on_variable var xs) f ≡ true → f.var ≡ var
 on-var var xs f is = same_numbers f.var var (has-all (on var) (on_variable var xs) f (filter-all (on var) xs) is)
@@ -102,9 +101,6 @@ on-prevail pre effects var apart =
 
 abbrev acts_on : ℕ → Effect → Bool
 acts_on var e = nat_eq e.fact.var var
-
-pub nat_eq-refl : (n : ℕ) → nat_eq n n ≡ true
-nat_eq-refl n = grind (arith, nat_tests)
 
 pub effects_on-same : (effects : List Effect) (e : Effect) → effects_on e.fact.var (effects ++ e ∷ []) ≡ suc (effects_on e.fact.var effects)
 effects_on-same effects e =

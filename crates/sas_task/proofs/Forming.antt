@@ -20,6 +20,7 @@ use Rattle.sas_task.specs.declared.contents.Rule.{Rule}
 use Rattle.sas_task.specs.declared.contents.Parts.{Parts}
 use Rattle.sas_task.proofs.TestLaws.{within, le-test, test-le, one-within, and_true, all-two, all-one, all-and, within-flat_map, within-map}
 use Rattle.sas_task.proofs.Permuting.{all-ordered, is_in_order, few_prevail, length-ordered}
+use Rattle.sas_task.proofs.TableLaws.{length-filter-le}
 
 -- variables
 
@@ -166,15 +167,6 @@ rules_pass variables init (r ∷ rules) few sound good =
           and_true (are_facts variables r.conds) _ (and_true (is_few r.conds) (list_all (is_fact variables) r.conds) a.0 facts.0)
           (and_true (is_fact variables r.head) _ facts.1 (and_true (not (is_default init r.head)) (is_layered_rule variables init r) not_default below)) in
           rw other (and_true (is_rule variables init r) _ here rest)
-    ] refl
-
-length-filter-le : {X : Type 0} (p : X → Bool) (xs : List X) → length (filter p xs) ≤ length xs
-length-filter-le p [] = omega arith
-length-filter-le p (x ∷ xs) =
-    let rest = length-filter-le p xs in
-    elim (p x) as (λ b. p x ≡ b → length (filter p (x ∷ xs)) ≤ suc (length xs)) [
-      | true ↦ λ is. rw is (omega arith)
-      | false ↦ λ is. rw is (omega arith)
     ] refl
 
 -- all together

@@ -14,8 +14,10 @@ use Rattle.sas_task.specs.declared.contents.Fact.{Fact}
 use Rattle.sas_task.specs.declared.contents.Effect.{Effect}
 use Rattle.sas_task.specs.declared.contents.Operator.{Operator}
 use Rattle.sas_task.proofs.FactLists.{same-refl, same-sym, isn't, has-append, Apart, apart-distinct, distinct-apart}
-use Rattle.sas_task.proofs.Arranging.{on, on-var, has-all, has-get, filter-twice, same_numbers, nat_eq-refl}
+use Rattle.sas_task.proofs.Arranging.{on, on-var, has-all, has-get, filter-twice, same_numbers}
+use Rattle.lama_num.proofs.BoolLaws.{nat_eq-refl}
 use Rattle.sas_task.proofs.Moving.{Stays, Moves, one_more, prevail-nil, standing_from, standing_is}
+use Rattle.std.proofs.lemmas.Bool.{or_parts as or_false}
 
 -- What a move of one fact to the end keeps, the order of preconditions keeps.
 pub kept_by_moves : (Q : List Fact → Type 0) → ((front rest : List Fact) (x : Fact) → Q (front ++ x ∷ rest) → Q (front ++ (rest ++ x ∷ []))) → (pre : List Fact) → Apart pre → Q pre → (effects : List Effect) → Q (arranged pre effects)
@@ -70,12 +72,6 @@ all-distinct p (x ∷ xs) all =
 
 pub all-ordered : (p : Fact → Bool) (pre : List Fact) (effects : List Effect) → list_all p pre ≡ true → list_all p (ordered pre effects) ≡ true
 all-ordered p pre effects all = all-arranged p (distinct pre) effects (apart-distinct pre) (all-distinct p pre all)
-
--- no repeated fact
-
-or_false : (a b : Bool) → (a || b) ≡ false → (a ≡ false) × (b ≡ false)
-or_false true b e = let k : true ≡ false = e in cc
-or_false false b e = (refl, e)
 
 apart-push : (rest : List Fact) (x : Fact) → has_fact rest x ≡ false → Apart rest → Apart (rest ++ x ∷ [])
 apart-push [] x none apart = (refl, tt)

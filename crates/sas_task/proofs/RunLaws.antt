@@ -18,6 +18,7 @@ use Rattle.sas_task.specs.declared.contents.Parts.{Parts}
 use Rattle.sas_task.specs.WellFormed.{IsWellFormed, range_of, layer_of, is_derived, is_fact, is_effect, is_operator, is_rule, is_default, is_layered_below, is_layered_rule, are_facts, is_few, is_short, has_few_conditions}
 use Rattle.sas_task.specs.States.{IsState, all_hold, fires, given, last_or, written, is_layer, rules_of, rounds_of, size_of, settled_below, default_or, reset, top_of, settled, step, is_applicable}
 use Rattle.sas_task.specs.Runs.{start_of, end_of, states_of, cost_at, cost_of}
+use Rattle.sas_task.proofs.TestLaws.{le-test as le-from_test}
 
 -- a test that follows from another
 weaker : {X : Type 0} (p q : X → Bool) (xs : List X) → ((x : X) → p x ≡ true → q x ≡ true) → list_all p xs ≡ true → list_all q xs ≡ true
@@ -434,11 +435,6 @@ cost_of-small parts (op ∷ ops) formed =
     let rest = cost_of-small parts ops formed in
     let sum : cost_of parts (op ∷ ops) ≡ cost_at parts op + cost_of parts ops = cost_of-append parts (op ∷ []) ops ∙ ap (λ n. n + cost_of parts ops) (zero-add (cost_at parts op)) in
     omega (arith, first, rest, sum)
-
--- what the tests of well-formed parts tell of one member
-
-le-from_test : (n most : ℕ) → nat_le n most ≡ true → n ≤ most
-le-from_test n most is = grind (arith, nat_tests, is)
 
 -- a list of facts that passed its test
 pub facts-test : (variables : List Variable) (facts : List Fact) → are_facts variables facts ≡ true → (length facts ≤ most_listed) × (list_all (is_fact variables) facts ≡ true)

@@ -107,7 +107,7 @@ counts_effect old new effects e counts after = record { count = λ var. after va
       | false ↦ λ other. sym (effects_on-other effects e var other)
     ] refl
 
-length-filter-le : {X : Type 0} (p : X → Bool) (xs : List X) → length (filter p xs) ≤ length xs
+pub length-filter-le : {X : Type 0} (p : X → Bool) (xs : List X) → length (filter p xs) ≤ length xs
 length-filter-le p [] = omega arith
 length-filter-le p (x ∷ xs) =
     let rest = length-filter-le p xs in

@@ -19,7 +19,8 @@ use Rattle.guide.specs.Operators.{applicable_operators}
 use Rattle.search_log.specs.Pending.{pending, puts_of, is_put, item_for}
 use Rattle.search_log.specs.Lawful.{IsNext, Follow, Lawful}
 use Rattle.search_log.proofs.Sound.{Sound}
-use Rattle.search_log.proofs.Elements.{found_at, filter-keep, filter-skip}
+use Rattle.search_log.proofs.Elements.{filter-keep, filter-skip}
+use Rattle.lama_num.proofs.ListLaws.{found_at}
 use Rattle.search_log.proofs.PendingLaws.{pending-visited, pending-popped, pending-other}
 use Rattle.search_log.proofs.TableLaws.{latest-push}
 use Rattle.search_log.proofs.SoundLaws.{sound_pop, first_node}

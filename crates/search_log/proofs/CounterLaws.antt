@@ -12,6 +12,7 @@ use Rattle.search_log.specs.Phases.{Phase, is_for_preferred}
 use Rattle.search_log.specs.Places.{Place, Node, is_expanded, estimate, is_progress, is_least_so_far}
 use Rattle.search_log.specs.Pending.{counter}
 use Rattle.search_log.specs.Counters.{LeastStand}
+use Rattle.lama_num.proofs.BoolLaws.{and-true}
 
 abbrev from_list : ℕ → Pop → Bool
 from_list k p = p.list == k
@@ -49,10 +50,6 @@ pub progress_by_least : (phase : Phase) (least : List ℕ) (nodes : List Node) (
     → is_progress phase nodes v place ≡ (is_expanded phase v place && list_any (λ j. nat_lt (estimate v j) (slice_index least j)) (range_with_len 0 phase.guides))
 progress_by_least phase least nodes v place s small =
     ap (λ b. is_expanded phase v place && b) (sym (any-range (λ j. nat_lt (estimate v j) (slice_index least j)) (is_least_so_far phase nodes v) 0 phase.guides phase.guides (omega arith) (λ j l. s j (estimate v j) l (small j))))
-
-and-true : (b : Bool) → (b && true) ≡ b
-and-true true = refl
-and-true false = refl
 
 ltb-min : (e a b : ℕ) → nat_lt e (min a b) ≡ (nat_lt e a && nat_lt e b)
 ltb-min e a b =

@@ -5,20 +5,11 @@ use Rattle.std.specs.List.{filter, list_any, position_or_len, range_with_len, fl
 use Rattle.std.proofs.lemmas.Bool.{cases_Bool, cases_eq, or_parts, and_parts, and_from}
 use Rattle.std.proofs.lemmas.Option.{slice_get-map, slice_get_within}
 use Rattle.std.proofs.lemmas.List.Folds.{list_all-append}
+use Rattle.lama_num.proofs.ListLaws.{found_at, slice_get-append_last as slice_get-push_at}
 
 -- where an element stands
 abbrev pub StandsIn : {X : Type 0} → List X → X → Type 0
 StandsIn xs x = (i : ℕ) × (slice_get xs i ≡ Some x)
-
-pub found_at : {X : Type 0} (xs : List X) (i : ℕ) → i < length xs → (x : X) × (slice_get xs i ≡ Some x)
-found_at [] i h = absurd (omega arith)
-found_at (x ∷ xs) zero h = (x, refl)
-found_at (x ∷ xs) (suc i) h = found_at xs i (omega arith)
-
--- an element put at the end
-pub slice_get-push_at : {X : Type 0} (xs : List X) (x : X) → slice_get (xs ++ x ∷ []) (length xs) ≡ Some x
-slice_get-push_at [] x = refl
-slice_get-push_at (y ∷ ys) x = slice_get-push_at ys x
 
 pub slice_get-push_other : {X : Type 0} (xs : List X) (x : X) (i : ℕ) → i ≢ length xs → slice_get (xs ++ x ∷ []) i ≡ slice_get xs i
 slice_get-push_other [] x zero h = absurd (h refl)

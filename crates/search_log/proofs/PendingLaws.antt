@@ -16,6 +16,7 @@ use Rattle.search_log.specs.Places.{Node, is_expanded}
 use Rattle.search_log.specs.Pending.{puts_of, is_put, item_for, is_taken, pending}
 use Rattle.search_log.proofs.Sound.{Numbered}
 use Rattle.search_log.proofs.Elements.{filter-keep, filter-skip, filter-same, filter-none, none-at, all-weaker, all-join}
+use Rattle.lama_num.proofs.BoolLaws.{or-false}
 
 abbrev pub is_entry : ℕ → ℕ → Item → Bool
 is_entry parent op item = (parent == item.entry.parent) && (op == item.entry.op)
@@ -157,10 +158,6 @@ Distinct-puts phase k s (n ∷ ns) h =
 -- whether a pop took this item from list k
 abbrev pub takes : ℕ → Pop → Item → Bool
 takes k p item = (p.list == k) && is_entry p.parent p.op item
-
-or-false : (b : Bool) → (b || false) ≡ b
-or-false true = refl
-or-false false = refl
 
 is_taken-push : (pops : List Pop) (p : Pop) (k : ℕ) (item : Item) → is_taken (pops ++ p ∷ []) k item ≡ (is_taken pops k item || takes k p item)
 is_taken-push pops p k item = list_any-append (λ (q : Pop). takes k q item) pops (p ∷ []) ∙ ap (λ b. is_taken pops k item || b) (or-false (takes k p item))

@@ -13,7 +13,8 @@ use Rattle.search_log.specs.Pending.{pending}
 use Rattle.search_log.specs.Rooms.{assignments, room}
 use Rattle.search_log.proofs.Sound.{Sound}
 use Rattle.search_log.specs.Spaces.{IsSettled}
-use Rattle.search_log.proofs.Elements.{from-map, push_cases, found_at}
+use Rattle.search_log.proofs.Elements.{from-map, push_cases}
+use Rattle.lama_num.proofs.ListLaws.{found_at}
 use Rattle.search_log.proofs.AssignmentLaws.{states_few}
 use Rattle.search_log.proofs.CountLaws.{lawful_counted, Counted, all_waiting, all_put, put_few, one_waiting}
 use Rattle.search_log.specs.declared.turns.Pop.{Pop}

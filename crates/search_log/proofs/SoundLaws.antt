@@ -17,7 +17,9 @@ use Rattle.search_log.specs.Logs.{Visit}
 use Rattle.search_log.specs.Phases.{Phase, IsPhase, is_below, adjusted_cost}
 use Rattle.search_log.specs.Places.{Node, latest, put_latest, id_of, start_place, start_past, node_at, Past, Place, makes_visit, extend, place_by}
 use Rattle.search_log.proofs.Sound.{OnPath, Numbered, top_cost, HasLatest, Sound}
-use Rattle.search_log.proofs.Elements.{all-weaker, found_at, one_at, push_cases, slice_get-push_at, slice_get-push_below}
+use Rattle.search_log.proofs.Elements.{all-weaker, one_at, push_cases, slice_get-push_below}
+use Rattle.lama_num.proofs.ListLaws.{slice_get-append_last as slice_get-push_at}
+use Rattle.lama_num.proofs.ListLaws.{found_at}
 use Rattle.search_log.proofs.TableLaws.{latest-push, put_latest-at, put_latest-other, put_latest-cases, table_stays, table_grows, id_within, id_state, id_first}
 use Rattle.search_log.specs.Lawful.{IsNext}
 use Rattle.search_log.proofs.TurnLaws.{Leads, leads_to, bare, with_visit, extend_bare, extend_made, visit_by_result}

@@ -7,7 +7,8 @@ use Rattle.std.proofs.lemmas.List.Sums.{fold-append}
 use Rattle.std.proofs.lemmas.Bool.{cases_eq, cases_lt, lt-ltb, le-ltb}
 use Rattle.std.proofs.lemmas.Slice.Eq.{bytes_eq-Decides}
 use Rattle.search_log.specs.Places.{Node, latest, put_latest, id_of}
-use Rattle.search_log.proofs.Elements.{slice_get-push_at, slice_get-push_other, slice_get-set_same, slice_get-set_other, position_passes, position_first, position_within}
+use Rattle.search_log.proofs.Elements.{slice_get-push_other, slice_get-set_same, slice_get-set_other, position_passes, position_first, position_within}
+use Rattle.lama_num.proofs.ListLaws.{slice_get-append_last as slice_get-push_at}
 
 pub latest-push : (nodes : List Node) (n : Node) → latest (nodes ++ n ∷ []) ≡ put_latest (latest nodes) n
 latest-push nodes n = fold-append put_latest [] nodes (n ∷ [])

@@ -6,10 +6,7 @@ use Rattle.std.proofs.lemmas.List.Quantifiers.{position-Some}
 use Rattle.std.proofs.lemmas.Option.{slice_get-get_or}
 use Rattle.state_registry.specs.Interning.{Interns, IsAbsent}
 use Rattle.state_registry.specs.declared.interned.Interned.TheVariants.{New, Known, Full}
-
-pub or_false : (a b : Bool) → (a || b) ≡ false → (a ≡ false) × (b ≡ false)
-or_false true b h = absurd (cc)
-or_false false b h = (refl, h)
+use Rattle.std.proofs.lemmas.Bool.{or_parts as or_false}
 
 pub is_same : (x y : List ℕ) → pointwise nat_eq x y ≡ true → x ≡ y
 is_same x y h = (bytes_decides x y).0 h

@@ -8,7 +8,7 @@ use Rattle.succ_gen.specs.declared.growing.Home.{Home}
 use Rattle.succ_gen.specs.declared.nodes.Node.{Node}
 use Rattle.succ_gen.specs.Growing.{parent_of, node_of}
 use Rattle.succ_gen.specs.Nodes.{IsBelow, IsCut, IsRun, IsNodeAt}
-use Rattle.succ_gen.proofs.Ways.{get_push}
+use Rattle.lama_num.proofs.ListLaws.{get_push}
 
 -- ---- cuts
 

@@ -17,7 +17,8 @@ use Rattle.succ_gen.specs.declared.growing.Step.{Step}
 use Rattle.succ_gen.specs.Branches.{ways, branch_of, EndsIn, AddsBranch, IsPlaced}
 use Rattle.succ_gen.specs.Conditions.{IsCondition}
 use Rattle.succ_gen.specs.Growing.{parent_of, node_of, operators_at, operators_going, IsHome, IsGrown, IsStepAt, IsLevel, AreInOrder, IsWhole}
-use Rattle.succ_gen.proofs.Ways.{get_push, way-push, way-last}
+use Rattle.succ_gen.proofs.Ways.{way-push, way-last}
+use Rattle.lama_num.proofs.ListLaws.{get_push}
 
 take-some : {X : Type 0} (xs : List X) (m : ℕ) (x : X) → slice_get xs m ≡ Some x → take (m + 1) xs ≡ take m xs ++ x ∷ []
 take-some xs m x is = by (m + 1) (omega arith) ∙ more xs m x is

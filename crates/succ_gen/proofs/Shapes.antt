@@ -7,7 +7,7 @@ use Rattle.std.proofs.lemmas.List.Folds.{list_all-append}
 use Rattle.std.proofs.lemmas.List.FromFn.{length-range_with_len, get_or-range_with_len}
 use Rattle.std.proofs.lemmas.List.Sorted.{Contains-permutation}
 use Rattle.std.proofs.lemmas.Option.{slice_get_within, slice_get-get_or, get_or_from_slice_get, slice_get-map}
-use Rattle.lama_num.proofs.ListLaws.{both}
+use Rattle.lama_num.proofs.ListLaws.{both, found_at as there}
 use Rattle.lama_num.specs.Rows.{row_at}
 use Rattle.sas_task.specs.States.{holds, all_hold}
 use Rattle.sas_task.specs.declared.contents.Fact.{Fact}
@@ -21,11 +21,6 @@ use Rattle.succ_gen.specs.Nodes.{IsCut, IsRun, IsNodeAt, AreNodes}
 use Rattle.succ_gen.specs.Trees.{node_at, IsChild, IsOpen, IsFound, IsTree, HasVariables, AreInside}
 use Rattle.succ_gen.specs.Trees.IsOpen.{root, child}
 use Rattle.succ_gen.proofs.Ways.{way-root, way-branch}
-
-pub there : {X : Type 0} (xs : List X) (i : ℕ) → i < length xs → (x : X) × (slice_get xs i ≡ Some x)
-there [] i lt = absurd (omega arith)
-there (x ∷ xs) zero lt = (x, refl)
-there (x ∷ xs) (suc i) lt = there xs i (omega arith)
 
 -- ---- cuts
 

@@ -7,7 +7,7 @@ use Rattle.lama_num.specs.Rows.{row_at}
 use Rattle.sas_task.specs.declared.contents.Fact.{Fact}
 use Rattle.sas_task.specs.declared.contents.Operator.{Operator}
 use Rattle.succ_gen.specs.Conditions.{AreConditions}
-use Rattle.succ_gen.proofs.Ways.{get_push}
+use Rattle.lama_num.proofs.ListLaws.{get_push}
 
 pub conditions_more : (operators : List Operator) (i : ℕ) (o : Operator) (conditions now : List (List Fact)) (facts : List Fact) → i < length operators → o ≡ get_or operators i o → IsPermutation o.pre facts → AreConditions (take i operators) conditions → now ≡ conditions ++ facts ∷ [] → AreConditions (take (i + 1) operators) now
 conditions_more operators i o conditions now facts lt is sorted are more =

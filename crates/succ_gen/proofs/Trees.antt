@@ -25,7 +25,8 @@ use Rattle.succ_gen.proofs.ConditionLaws.{AreFactsBelow}
 use Rattle.succ_gen.specs.Growing.{operators_at, IsWhole}
 use Rattle.succ_gen.specs.Nodes.{AreNodes}
 use Rattle.succ_gen.specs.Trees.{IsFor}
-use Rattle.succ_gen.proofs.Shapes.{there, op_found, found_op, tree_shape, operators_inside, has_variables}
+use Rattle.succ_gen.proofs.Shapes.{op_found, found_op, tree_shape, operators_inside, has_variables}
+use Rattle.lama_num.proofs.ListLaws.{found_at as there}
 
 all_moved : {X : Type 0} (p : X → Bool) (xs ys : List X) → IsPermutation xs ys → list_all p xs ≡ true → list_all p ys ≡ true
 all_moved p xs ys moved all = list_all-from_AllPass p ys (All-permutation (λ x. p x ≡ true) xs ys moved (AllPass-from_list_all p xs all))

@@ -5,16 +5,7 @@ use Rattle.lama_num.specs.Rows.{row_at}
 use Rattle.sas_task.specs.declared.contents.Fact.{Fact}
 use Rattle.succ_gen.specs.declared.growing.Branch.{Branch}
 use Rattle.succ_gen.specs.Branches.{ways_from, ways, EndsIn}
-
--- a place in a list with one element more
-pub get_push : {A : Type 0} (xs : List A) (x : A) (i : ℕ) (y : A) → slice_get (xs ++ x ∷ []) i ≡ Some y → (slice_get xs i ≡ Some y) ⊎ ((i ≡ length xs) × (y ≡ x))
-get_push [] x zero y at = inr (refl, (let is : y ≡ x = cc in is))
-get_push [] x (suc i) y at = absurd (cc)
-get_push (z ∷ zs) x zero y at = inl at
-get_push (z ∷ zs) x (suc i) y at = elim (get_push zs x i y at) [
-  | inl before ↦ inl before
-  | inr here ↦ inr ((let n : i ≡ length zs = here.0 in let m : suc i ≡ suc (length zs) = ap suc n in m), here.1)
-]
+use Rattle.lama_num.proofs.ListLaws.{get_push}
 
 -- the way that a branch adds
 abbrev next_way : List (List Fact) → Branch → List Fact

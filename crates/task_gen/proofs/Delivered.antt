@@ -18,7 +18,7 @@ use Rattle.sas_task.specs.declared.contents.Fact.{Fact}
 use Rattle.sas_task.specs.declared.contents.Variable.{Variable}
 use Rattle.sas_task.specs.declared.contents.Operator.{Operator}
 use Rattle.task_gen.specs.Delivery.{IsPackageCount, places, packages, truck_at, at_place, inside, truck_of, package_of, starts_at, ends_at, fact_of, move_to, load, unload, moves, loads_of, loads, delivery}
-use Rattle.task_gen.proofs.Tested.{same_test}
+use Rattle.lama_num.proofs.BoolLaws.{nat_eq-refl as same_test}
 use Rattle.task_gen.proofs.Ranges.{all-map, all-flat_map, all-zip, map-flat_map, length-map_range, length-flat_map_range, sum_by-map_range, slice_get-map_range}
 
 lt-test : (a b : ℕ) → a < b → nat_lt a b ≡ true

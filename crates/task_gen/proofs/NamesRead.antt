@@ -138,7 +138,7 @@ gives_name n text name bare is =
       | false ↦ λ none. let k : ◌≡◌ {A = Result (List ℕ) SasFault} (Err _) (Ok name) = rw none at is in cc
     ] refl
 
-abbrev has_names : Variable → Bool
+abbrev pub has_names : Variable → Bool
 has_names v = is_line_name v.name && list_all is_line_name v.values
 
 gives_variable : (var before : ℕ) → Gives (λ v. has_names v ≡ true) (variable var before)

@@ -13,8 +13,11 @@ use Rattle.sas_task.specs.declared.contents.Fact.{Fact}
 use Rattle.sas_task.specs.declared.contents.Effect.{Effect}
 use Rattle.task_gen.specs.Printed.{old_value}
 use Rattle.task_gen.specs.Waiting.{Waits, first_is, is_front}
-use Rattle.task_gen.proofs.Tested.{same_number, same_test}
+use Rattle.task_gen.proofs.Tested.{same_number}
+use Rattle.lama_num.proofs.BoolLaws.{nat_eq-refl as same_test}
 use Rattle.task_gen.proofs.SameFacts.{has-filter, effects_on-append}
+use Rattle.sas_task.proofs.FactLists.{Apart}
+use Rattle.sas_task.proofs.Moving.{prevail-nil}
 
 -- one more fact waits
 
@@ -23,12 +26,6 @@ on-push_same facts f = filter-append (λ g. nat_eq g.var f.var) facts (f ∷ [])
 
 on-push_other : (facts : List Fact) (f : Fact) (var : ℕ) → nat_eq f.var var ≡ false → on_variable var (facts ++ f ∷ []) ≡ on_variable var facts
 on-push_other facts f var other = filter-append (λ g. nat_eq g.var var) facts (f ∷ []) ∙ rw other (append-nil (on_variable var facts))
-
--- lists without a repeated fact
-
-abbrev Apart : List Fact → Type 0
-Apart [] = Unit {0}
-Apart (f ∷ fs) = (has_fact fs f ≡ false) × Apart fs
 
 and_false : (a b : Bool) → a ≡ false → (a && b) ≡ false
 and_false true b is = let k : true ≡ false = is in cc
@@ -160,9 +157,6 @@ first_absent facts p f none = absent (on_variable f.var (filter p facts)) (has-f
 enumerate-push : {X : Type 0} (n : ℕ) (xs : List X) (x : X) → enumerate_from n (xs ++ x ∷ []) ≡ enumerate_from n xs ++ (n + length xs, x) ∷ []
 enumerate-push n [] x = ap (λ k. (k, x) ∷ []) (let e : n ≡ n + 0 = omega arith in e)
 enumerate-push n (y ∷ xs) x = ap (λ ys. (n, y) ∷ ys) (enumerate-push (n + 1) xs x ∙ ap (λ k. enumerate_from (n + 1) xs ++ (k, x) ∷ []) (let e : n + 1 + length xs ≡ n + suc (length xs) = omega arith in e))
-
-prevail-nil : (pre : List Fact) → prevail pre [] ≡ pre
-prevail-nil pre = filter-true pre
 
 apart-drop : (i : ℕ) (xs : List Fact) → Apart xs → Apart (drop i xs)
 apart-drop zero xs apart = apart

@@ -11,26 +11,12 @@ use Rattle.sas_reader.specs.Formats.{Format, Done, Line, Kind, Value, value_of, 
 use Rattle.sas_reader.specs.Formats as formats
 use Rattle.sas_reader.specs.Walks.{walk, next, next_by}
 use Rattle.sas_reader.specs.declared.faults.SasFault.{SasFault}
+use Rattle.sas_reader.proofs.Walking.{walk_on as walk-bind, bind_bind, bind_same}
 
 -- Whatever stands behind these lines, the format reads them as this, and no line more. None of them has anything that reading drops.
 pub record Reads {A : Type 0} (format : Format A) (lines : List (List ℕ)) (x : A) : Type 0 where
   pub bare : list_all is_line lines ≡ true
   pub reads : (more : List (List ℕ)) (n : ℕ) → walk format (record { left = lines ++ more; line = n }) ≡ Ok (x, record { left = more; line = n + length lines })
-
--- one after another
-
-bind_bind : {A B C : Type 0} (r : Result A SasFault) (f : A → Result B SasFault) (g : B → Result C SasFault) → ((r >>= f) >>= g) ≡ (r >>= λ x. f x >>= g)
-bind_bind (Ok x) f g = refl
-bind_bind (Err e) f g = refl
-
-bind_same : {A B : Type 0} (r : Result A SasFault) (f g : A → Result B SasFault) → ((x : A) → f x ≡ g x) → (r >>= f) ≡ (r >>= g)
-bind_same (Ok x) f g e = e x
-bind_same (Err x) f g e = refl
-
-walk-bind : {A B : Type 0} (format : Format A) (more : A → Format B) (place : Place) → walk (formats.◌>>=◌ format more) place ≡ (walk format place >>= λ r. walk (more r.0) r.1)
-walk-bind (Done x) more place = refl
-walk-bind (Line kind onward) more place =
-    bind_same (next kind place) _ _ (λ r. walk-bind (onward r.0) more r.1) ∙ sym (bind_bind (next kind place) _ _)
 
 pub reads_done : {A : Type 0} (x : A) → Reads (Done x) [] x
 reads_done x = record { bare = refl; reads = λ more n. ap (λ (k : ℕ). Ok (x, record { left = more; line = k })) (let e : n ≡ n + 0 = omega arith in e) }

@@ -30,6 +30,7 @@ use Rattle.task_gen.specs.ReadBack.{is_line_name, has_line_names}
 use Rattle.task_gen.proofs.Tested.{lt-from_test, same_number, all-filter, filter-all, few_values, passes_variable, passes_operator, passes_rule, passes_start}
 use Rattle.task_gen.proofs.Reading.{Says, Reads, reads_done, reads_line, reads_bind, reads_bind_line, reads_map, reads_times, reads_lines}
 use Rattle.task_gen.proofs.Says.{begins, ends as ends_says, three, zero_or_one, names, counts, layers, ranges, values, facts as fact_says, own_fact, effects as effect_says, head_words, heads}
+use Rattle.task_gen.proofs.NamesRead.{has_names}
 
 -- lines that each say what they were made of
 reads_same : (kind : Kind) (text : Value kind → List ℕ) (xs : List (Value kind)) → ((i : ℕ) (x : Value kind) → slice_get xs i ≡ Some x → Says kind (text x) x) → Reads (times (length xs) (line kind)) (map text xs) xs
@@ -60,11 +61,6 @@ unfolding metric
 reads_metric m =
     reads_line (Begin InMetric) _ (begin_of InMetric) tt _ m (begins InMetric)
     (reads_line ZeroOrOne _ (if m then codes "1" else codes "0") m _ m (zero_or_one m) (reads_line (End InMetric) _ (end_of InMetric) tt [] m (ends_says InMetric) (reads_done m)))
-
--- variables
-
-abbrev has_names : Variable → Bool
-has_names v = is_line_name v.name && list_all is_line_name v.values
 
 reads_names : (xs : List (List ℕ)) → list_all is_line_name xs ≡ true → list_all is_short xs ≡ true → Reads (times (length xs) (line Name)) xs xs
 reads_names xs are short =

@@ -10,17 +10,13 @@ use Rattle.sas_task.specs.declared.contents.Variable.{Variable}
 use Rattle.sas_task.specs.declared.contents.Effect.{Effect}
 use Rattle.sas_task.specs.declared.contents.Operator.{Operator}
 use Rattle.sas_task.specs.declared.contents.Rule.{Rule}
+use Rattle.lama_num.proofs.BoolLaws.{nat_eq-refl as same_test}
+use Rattle.std.proofs.lemmas.Bool.{eqb-true as same_number}
 
 -- numbers
 
 pub lt-from_test : (a b : ℕ) → nat_lt a b ≡ true → a < b
 lt-from_test a b is = grind (arith, nat_tests, is)
-
-pub same_number : (a b : ℕ) → nat_eq a b ≡ true → a ≡ b
-same_number a b is = grind (arith, nat_tests, is)
-
-pub same_test : (n : ℕ) → nat_eq n n ≡ true
-same_test n = grind (arith, nat_tests)
 
 -- filters
 
