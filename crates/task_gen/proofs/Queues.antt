@@ -13,7 +13,7 @@ use Rattle.sas_task.specs.declared.contents.Fact.{Fact}
 use Rattle.sas_task.specs.declared.contents.Effect.{Effect}
 use Rattle.task_gen.specs.Printed.{old_value}
 use Rattle.task_gen.specs.Waiting.{Waits, first_is, is_front}
-use Rattle.task_gen.proofs.Tested.{same_number}
+use Rattle.std.proofs.lemmas.Bool.{eqb-true as same_number}
 use Rattle.lama_num.proofs.BoolLaws.{nat_eq-refl as same_test}
 use Rattle.task_gen.proofs.SameFacts.{has-filter, effects_on-append}
 use Rattle.sas_task.proofs.FactLists.{Apart}

@@ -9,7 +9,8 @@ use Rattle.sas_task.specs.Facts.{same_fact, has_fact}
 use Rattle.sas_task.specs.Order.{distinct, on_variable, effects_on, is_prevail, prevail, standing_for, standing, arranged, ordered}
 use Rattle.sas_task.specs.declared.contents.Fact.{Fact}
 use Rattle.sas_task.specs.declared.contents.Effect.{Effect}
-use Rattle.task_gen.proofs.Tested.{same_number, filter-all}
+use Rattle.task_gen.proofs.Tested.{filter-all}
+use Rattle.std.proofs.lemmas.Bool.{eqb-true as same_number}
 
 pub same-true : (f g : Fact) → same_fact f g ≡ true → f ≡ g
 same-true f g same =

@@ -27,7 +27,8 @@ use Rattle.sas_reader.specs.declared.sections.Section.{Section}
 use Rattle.sas_reader.specs.declared.sections.Section.TheVariants.{Version as InVersion, Metric as InMetric, Variable as InVariable, MutexGroup as InGroup, State as InState, Goal as InGoal, Operator as InOperator, Rule as InRule}
 use Rattle.task_gen.specs.Printed.{spaced, part, counted, version_lines, metric_lines, number_or_none, variable_lines, fact_words, fact_lines, group_lines, state_lines, goal_lines, effect_line, old_value, effect_lines, change_lines, operator_lines, rule_lines, task_lines}
 use Rattle.task_gen.specs.ReadBack.{is_line_name, has_line_names}
-use Rattle.task_gen.proofs.Tested.{lt-from_test, same_number, all-filter, filter-all, few_values, passes_variable, passes_operator, passes_rule, passes_start}
+use Rattle.task_gen.proofs.Tested.{lt-from_test, all-filter, filter-all, few_values, passes_variable, passes_operator, passes_rule, passes_start}
+use Rattle.std.proofs.lemmas.Bool.{eqb-true as same_number}
 use Rattle.task_gen.proofs.Reading.{Says, Reads, reads_done, reads_line, reads_bind, reads_bind_line, reads_map, reads_times, reads_lines}
 use Rattle.task_gen.proofs.Says.{begins, ends as ends_says, three, zero_or_one, names, counts, layers, ranges, values, facts as fact_says, own_fact, effects as effect_says, head_words, heads}
 use Rattle.task_gen.proofs.NamesRead.{has_names}
