@@ -52,7 +52,7 @@ fn is_in(rules: &Rules, place: usize, layer: u32) -> bool
 }
 
 /// Tries the rules of a layer, which begin at a place, and says where they end.
-fn try_each(
+fn try_rules_of(
     parts: &Parts,
     rules: &Rules,
     layer: u32,
@@ -87,7 +87,7 @@ fn try_each(
 }
 
 /// Tries the rules of a layer that watch a variable.
-fn look_at(
+fn try_watchers_of(
     parts: &Parts,
     rules: &Rules,
     layer: u32,
@@ -118,7 +118,7 @@ fn look_at(
 }
 
 /// Looks at the variables that were given until none waits.
-fn look_at_all(parts: &Parts, rules: &Rules, layer: u32, values: &mut [u32], waiting: &mut Vec<u32>)
+fn propagate(parts: &Parts, rules: &Rules, layer: u32, values: &mut [u32], waiting: &mut Vec<u32>)
     requires formed { IsWellFormed parts.now }
     requires rules { AreRules parts.now rules.now }
     requires room { length parts.now.variables ≤ vec_capacity waiting.old }
@@ -131,7 +131,7 @@ fn look_at_all(parts: &Parts, rules: &Rules, layer: u32, values: &mut [u32], wai
     ensures none { waiting.new.items ≡ [] }
 {
     while let Some(var) = waiting.pop() {
-        look_at(parts, rules, layer, var, values, waiting);
+        try_watchers_of(parts, rules, layer, var, values, waiting);
     }
 }
 
@@ -163,7 +163,7 @@ pub fn settle_layer(
         layer_at rules.now from < layer_at rules.now result }
 {
     let layer = rules.heads[from].layer;
-    let end = try_each(parts, rules, layer, from, values, waiting);
-    look_at_all(parts, rules, layer, values, waiting);
+    let end = try_rules_of(parts, rules, layer, from, values, waiting);
+    propagate(parts, rules, layer, values, waiting);
     end
 }

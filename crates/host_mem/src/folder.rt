@@ -38,13 +38,13 @@ pub fn written(
     }
 }
 
-pub(crate) fn made(alloc: Global, name: &str) -> Result<Change, AllocError>
+pub(crate) fn creation(alloc: Global, name: &str) -> Result<Change, AllocError>
     ensures { IfOk result (λ change. change ≡ Change.Made name.now) }
 {
     Ok(Change::Made(copy(alloc, name.as_bytes())?))
 }
 
-pub(crate) fn grew(
+pub(crate) fn growth(
     alloc: Global,
     name: &str,
     piece: &[u8],
@@ -65,7 +65,7 @@ pub(crate) fn grew(
     ))
 }
 
-pub(crate) fn moved(alloc: Global, old: &str, new: &str, bytes: &[u8]) -> Result<Change, AllocError>
+pub(crate) fn renaming(alloc: Global, old: &str, new: &str, bytes: &[u8]) -> Result<Change, AllocError>
     ensures { IfOk result (λ change. change ≡ Change.Moved old.now new.now bytes.now) }
 {
     Ok(Change::Moved(
@@ -75,7 +75,7 @@ pub(crate) fn moved(alloc: Global, old: &str, new: &str, bytes: &[u8]) -> Result
     ))
 }
 
-pub(crate) fn gone(alloc: Global, name: &str) -> Result<Change, AllocError>
+pub(crate) fn removal(alloc: Global, name: &str) -> Result<Change, AllocError>
     ensures { IfOk result (λ change. change ≡ Change.Gone name.now) }
 {
     Ok(Change::Gone(copy(alloc, name.as_bytes())?))

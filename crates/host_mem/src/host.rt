@@ -20,7 +20,7 @@ use crate::calls::{Fail, HostCall, next_fault};
 use crate::children::{Running, Script, Start, copy_start, end_child};
 use crate::ends::{answer, begin, ended};
 use crate::faults::{log, share, unless_fault};
-use crate::folder::{gone, grew, made, moved, read};
+use crate::folder::{removal, growth, creation, renaming, read};
 use crate::journal::{Change, bytes_held, look_up};
 use lama_host::{ChildEnd, Failed, Folder, Host, Limits, Piece};
 use lama_num::Seq;
@@ -167,7 +167,7 @@ impl Folder for MemHost {
             (λ files. insert files name.now [] ∷ []) (λ files. insert files name.now [] ∷ []) }
     {
         let fault = next_fault(&self.failing, &mut self.calls, HostCall::Create);
-        let change = made(self.alloc, name);
+        let change = creation(self.alloc, name);
         log(
             &mut self.journal,
             &mut self.faults,
@@ -190,7 +190,7 @@ impl Folder for MemHost {
     {
         let fault = next_fault(&self.failing, &mut self.calls, HostCall::Append);
         let old = bytes_held(&self.files, &self.journal, name.as_bytes());
-        let change = grew(self.alloc, name, piece, share(fault, piece.len()), old);
+        let change = growth(self.alloc, name, piece, share(fault, piece.len()), old);
         log(
             &mut self.journal,
             &mut self.faults,
@@ -214,7 +214,7 @@ impl Folder for MemHost {
     {
         let fault = next_fault(&self.failing, &mut self.calls, HostCall::Rename);
         let bytes = bytes_held(&self.files, &self.journal, old.as_bytes());
-        let change = moved(self.alloc, old, new, bytes);
+        let change = renaming(self.alloc, old, new, bytes);
         log(
             &mut self.journal,
             &mut self.faults,
@@ -234,7 +234,7 @@ impl Folder for MemHost {
             (λ files. remove files name.now ∷ []) (λ files. remove files name.now ∷ []) }
     {
         let fault = next_fault(&self.failing, &mut self.calls, HostCall::Remove);
-        let change = gone(self.alloc, name);
+        let change = removal(self.alloc, name);
         log(
             &mut self.journal,
             &mut self.faults,

@@ -51,7 +51,7 @@ pub(crate) fn search_by<C: Clock>(
     ensures later { C.last clock.old ≤ C.last clock.new }
     ensures tells { TellsOn (C.answers clock.old) (C.answers clock.new) }
 {
-    match guide.turn_to(alloc, task, phase) {
+    match guide.switch_to_phase(alloc, task, phase) {
         Err(NoMemory) => SearchEnd::NoMemory,
         Ok(()) => search(alloc, task, &asked(phase, bound, stop), guide, clock),
     }

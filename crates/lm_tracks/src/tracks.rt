@@ -81,7 +81,7 @@ impl Tracks {
 
     /// Forgets what is kept, so that another search can begin, whose estimates are by a kind of
     /// cost. The graph stays, and the memory too.
-    pub fn turn_to(&mut self, task: &Task, kind: CostKind)
+    pub fn restart(&mut self, task: &Task, kind: CostKind)
         ensures status { IsStatusOf task.now self.old.status.graph kind self.new.status }
         ensures rows { self.new.rows ≡ [] }
     {

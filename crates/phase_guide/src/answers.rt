@@ -15,7 +15,7 @@ pub(crate) fn emptied(alloc: Global, out: &mut Seen) -> Vec<u32>
     ops
 }
 
-pub(crate) fn tell(out: &mut Seen, dead: bool, estimates: [u32; 3], preferred: Vec<u32>)
+pub(crate) fn fill_answer(out: &mut Seen, dead: bool, estimates: [u32; 3], preferred: Vec<u32>)
     ensures dead { out.new.dead ≡ dead }
     ensures estimates { out.new.estimates ≡ estimates }
     ensures preferred { out.new.preferred ≡ preferred.items }

@@ -1,7 +1,7 @@
 // The guide of a phase.
 ghost use Rattle.std.specs.Prelude.{◌≡◌, ◌≤◌, length};
 
-use crate::answers::{emptied, tell};
+use crate::answers::{emptied, fill_answer};
 use crate::kinds::{Values, estimates, has};
 use crate::preferring::prefer_into;
 use crate::relaxing::{RelaxedCosts, Relaxing};
@@ -45,7 +45,7 @@ impl PhaseGuide {
     ghost use Rattle.phase_guide.specs.Guides.{IsFor};
 
     /// Says what was found of a state, whose row was made last.
-    fn say(
+    fn answer_into(
         &self,
         alloc: Global,
         task: &Task,
@@ -62,7 +62,7 @@ impl PhaseGuide {
     {
         let mut preferred = emptied(alloc, out);
         let Some(costs) = found else {
-            tell(out, true, [0; 3], preferred);
+            fill_answer(out, true, [0; 3], preferred);
             return Ok(());
         };
         let by_ff = has(&self.phase.preferred, GuideKind::Ff);
@@ -82,7 +82,7 @@ impl PhaseGuide {
             ff: costs.ff,
             lm: self.tracks.estimate(state),
         };
-        tell(out, false, estimates(&self.phase.guides, values), preferred);
+        fill_answer(out, false, estimates(&self.phase.guides, values), preferred);
         Ok(())
     }
 }
@@ -123,6 +123,6 @@ impl Guide for PhaseGuide {
     ) -> Result<(), NoMemory> {
         self.tracks.advance(parent, id, state)?;
         let found = self.relaxing.evaluate(task, state);
-        self.say(alloc, task, found, state, applicable, out)
+        self.answer_into(alloc, task, found, state, applicable, out)
     }
 }

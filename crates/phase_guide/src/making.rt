@@ -60,7 +60,7 @@ fn new_relaxing(alloc: Global, task: &Task, phase: &Phase) -> Result<Relaxing, N
 }
 
 /// Whether the landmarks of the phase before serve a phase.
-fn are_enough(phase: &Phase, had: &Phase) -> bool
+fn has_landmarks_for(phase: &Phase, had: &Phase) -> bool
     ensures { IsTrue result → has_guide phase.now.guides TheGuide.Lm ≡ true →
         has_guide had.now.guides TheGuide.Lm ≡ true }
 {
@@ -79,8 +79,8 @@ fn renew_tracks(
     ensures landmarks { OnOk result (AreLandmarksFor task.now phase.now tracks.new.status) }
     ensures rows { OnOk result (tracks.new.rows ≡ []) }
 {
-    if are_enough(phase, had) {
-        tracks.turn_to(task, phase.estimate);
+    if has_landmarks_for(phase, had) {
+        tracks.restart(task, phase.estimate);
     } else {
         release_tracks(replace(tracks, tracks_for(alloc, task, phase)?));
     }
@@ -98,7 +98,7 @@ fn renew_relaxing(
     requires { IsRelaxingFor task.now had.now.estimate relaxing.old }
     ensures { OnOk result (Serves task.now phase.now relaxing.new) }
 {
-    if !is_same_cost(had.estimate, phase.estimate) || !relaxing.is_enough(phase) {
+    if !is_same_cost(had.estimate, phase.estimate) || !relaxing.serves(phase) {
         release_relaxing(replace(relaxing, new_relaxing(alloc, task, phase)?));
     }
     Ok(())
@@ -136,7 +136,7 @@ impl PhaseGuide {
     /// estimates are by the same kind of cost the tables of the relaxation; nothing else is kept.
     ///
     /// After want of memory nothing is said of the guide.
-    pub fn turn_to(&mut self, alloc: Global, task: &Task, phase: &Phase) -> Result<(), NoMemory>
+    pub fn switch_to_phase(&mut self, alloc: Global, task: &Task, phase: &Phase) -> Result<(), NoMemory>
         requires phase { IsPhase phase.now }
         requires task { IsFor self.old task.now }
         ensures phase { OnOk result (self.new.phase ≡ phase.now) }

@@ -87,7 +87,7 @@ impl Relaxing {
     }
 
     /// Whether a phase needs nothing else. FF serves for the additive estimate too.
-    pub(crate) fn is_enough(&self, phase: &Phase) -> bool
+    pub(crate) fn serves(&self, phase: &Phase) -> bool
         ensures relaxing { IsTrue result → relaxing_test phase.now ≡ does_relax self.now }
         ensures planning { IsTrue result → has_guide phase.now.guides TheGuide.Ff ≡ true →
             does_plan self.now ≡ true }

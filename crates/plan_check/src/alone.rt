@@ -30,12 +30,12 @@ pub fn go_alone(
     let mut cost = 0;
     walker.begin(setup.task);
     for (i, name) in names.iter().enumerate() {
-        walker.look(setup, name)?;
+        walker.find_candidates(setup, name)?;
         match walker.candidates.as_slice() {
             [] => return Err(Refusal::Bad(setup.no_candidate(name, i as u32 + 1))),
             [op] => {
                 let op = *op;
-                cost += walker.go_on(setup.task, op);
+                cost += walker.apply(setup.task, op);
                 let from = (i as u32).saturating_sub(1);
                 links.push(Link { from, op })?;
             }

@@ -27,7 +27,7 @@ pub struct Chosen {
 }
 
 /// Goes on with the names for which there are no links yet, layer by layer.
-fn go_on(
+fn follow_by_layers(
     setup: &Setup,
     walker: &mut Walker,
     names: &[Seq<u8>],
@@ -61,7 +61,7 @@ fn go_on(
 }
 
 /// Goes through the names: with no layer as long as there is one choice, and then layer by layer.
-fn walk(
+fn follow_names(
     setup: &Setup,
     walker: &mut Walker,
     names: &[Seq<u8>],
@@ -81,11 +81,11 @@ fn walk(
     let cost = go_alone(setup, walker, names, links)?;
     let mut start = Layer::new(setup.alloc);
     start.add(setup.alloc, &setup.layout, &walker.here, cost)?;
-    go_on(setup, walker, names, start, links)
+    follow_by_layers(setup, walker, names, start, links)
 }
 
 /// What the last layer tells: its goals, and the choice that leads to the first of the wanted cost.
-fn told(
+fn choose_plan(
     setup: &Setup,
     walker: &mut Walker,
     names: &[Seq<u8>],
@@ -133,8 +133,8 @@ fn choose_by(
     ensures fault { IfErr result (IsFirstFault setup.now.task.now names.now) }
 {
     let mut links = Vec::new(setup.alloc);
-    let last = walk(setup, walker, names, &mut links)?;
-    told(setup, walker, names, &links, &last, wanted)
+    let last = follow_names(setup, walker, names, &mut links)?;
+    choose_plan(setup, walker, names, &links, &last, wanted)
 }
 
 /// The same, with a walker that is made for it.

@@ -74,7 +74,7 @@ pub fn pick(setup: &Setup, walker: &mut Walker, layer: &Layer, wanted: u64) -> G
         place: None,
     };
     for place in 0..layer.len() {
-        let cost = walker.go_to(setup, layer, place);
+        let cost = walker.restore(setup, layer, place);
         let goal = walker.is_goal(setup.task);
         goals = goals.with(place, cost, goal, cost == wanted);
     }

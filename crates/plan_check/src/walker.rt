@@ -55,7 +55,7 @@ impl Walker {
 
     /// Looks which operators have a name and can be taken. What `candidates` holds where memory is
     /// wanting isn't said.
-    pub fn look(&mut self, setup: &Setup, name: &[u8]) -> Result<(), AllocError>
+    pub fn find_candidates(&mut self, setup: &Setup, name: &[u8]) -> Result<(), AllocError>
         requires made { IsSetup setup.now }
         requires ready { IsWalker self.old setup.now.task.now }
         ensures ready { IsWalker self.new setup.now.task.now }
@@ -90,7 +90,7 @@ impl Walker {
     }
 
     /// Goes on by an operator that can be taken, and tells what it costs.
-    pub fn go_on(&mut self, task: &Task, op: u32) -> u64
+    pub fn apply(&mut self, task: &Task, op: u32) -> u64
         requires ready { IsWalker self.old task.now }
         requires applicable { IsTrue (is_applicable task.now self.old.here.items op) }
         ensures ready { IsWalker self.new task.now }
@@ -104,7 +104,7 @@ impl Walker {
     }
 
     /// Goes to the state of a pair, and tells the pair's cost.
-    pub fn go_to(&mut self, setup: &Setup, layer: &Layer, place: usize) -> u64
+    pub fn restore(&mut self, setup: &Setup, layer: &Layer, place: usize) -> u64
         requires made { IsSetup setup.now }
         requires ready { IsWalker self.old setup.now.task.now }
         requires place { place < length layer.now }

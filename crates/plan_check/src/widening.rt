@@ -159,8 +159,8 @@ fn fill(
 {
     for place in 0..last.layer.len() {
         let from = (last.first + place) as u32;
-        let cost = walker.go_to(setup, &last.layer, place);
-        walker.look(setup, &names[count])?;
+        let cost = walker.restore(setup, &last.layer, place);
+        walker.find_candidates(setup, &names[count])?;
         if !widen(setup, walker, from, cost, links, layer)? {
             return Ok(false);
         }

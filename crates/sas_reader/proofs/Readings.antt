@@ -14,7 +14,7 @@ use Rattle.sas_reader.specs.declared.faults.SasError.{SasError}
 use Rattle.sas_reader.specs.declared.faults.SasError.TheVariants.{Bad}
 use Rattle.sas_reader.specs.declared.faults.SasFault.{SasFault}
 use Rattle.sas_reader.specs.declared.faults.SasFault.TheVariants.{CutShort, Trailing, TooLarge}
-use Rattle.sas_task.specs.Refusals.{brought}
+use Rattle.sas_task.specs.Refusals.{canonical_parts}
 use Rattle.sas_task.proofs.TestLaws.{le-test, test-le}
 use Rattle.sas_task.specs.declared.refusals.What.TheVariants.{Bytes}
 
@@ -139,10 +139,10 @@ refused_behind {A} (Line kind later) wanted n (line ∷ front) others fault befo
 
 -- bytes
 
-text_given : (bytes : List ℕ) (parts : Parts) → parts_of bytes ≡ Ok parts → IsTextOf bytes (brought parts)
+text_given : (bytes : List ℕ) (parts : Parts) → parts_of bytes ≡ Ok parts → IsTextOf bytes (canonical_parts parts)
 unfolding parts_of parts_in
-text_given bytes parts is = elim (nat_le (length bytes) most_bytes) as (λ t. nat_le (length bytes) most_bytes ≡ t → IsTextOf bytes (brought parts)) [
-  | true ↦ λ e. record { within = le-test (length bytes) most_bytes e; given = parts; lines = text_of task 1 (lines_of bytes) parts (rw e at is); brought = refl }
+text_given bytes parts is = elim (nat_le (length bytes) most_bytes) as (λ t. nat_le (length bytes) most_bytes ≡ t → IsTextOf bytes (canonical_parts parts)) [
+  | true ↦ λ e. record { within = le-test (length bytes) most_bytes e; given = parts; lines = text_of task 1 (lines_of bytes) parts (rw e at is); canonical_parts = refl }
   | false ↦ λ e. let c : ◌≡◌ {A = Result Parts SasFault} (Err (TooLarge Bytes (length bytes))) (Ok parts) = rw e at is in cc
 ] refl
 
@@ -156,14 +156,14 @@ fault_given bytes fault is = elim (nat_le (length bytes) most_bytes) as (λ t. n
 -- what bytes give is what they are
 pub reads : (bytes : List ℕ) → Reads bytes (task_of bytes)
 unfolding task_of
-reads bytes = elim (parts_of bytes) as (λ r. parts_of bytes ≡ r → Reads bytes (r >>= λ parts. Ok (brought parts))) [ Ok parts ↦ λ is. text_given bytes parts is | Err fault ↦ λ is. fault_given bytes fault is ] refl
+reads bytes = elim (parts_of bytes) as (λ r. parts_of bytes ≡ r → Reads bytes (r >>= λ parts. Ok (canonical_parts parts))) [ Ok parts ↦ λ is. text_given bytes parts is | Err fault ↦ λ is. fault_given bytes fault is ] refl
 
 -- and they are nothing else
 reads_only : (bytes : List ℕ) (r : Result Parts SasFault) → Reads bytes r → r ≡ task_of bytes
 unfolding task_of parts_of parts_in
 reads_only bytes (Ok task_parts) is =
     let e : nat_le (length bytes) most_bytes ≡ true = test-le (length bytes) most_bytes is.within in
-    rw (e, given_of task 1 (lines_of bytes) is.given is.lines, is.brought) refl
+    rw (e, given_of task 1 (lines_of bytes) is.given is.lines, is.canonical_parts) refl
 reads_only bytes (Err fault) (inl is) = let long : most_bytes < length bytes = is.0 in let e : nat_le (length bytes) most_bytes ≡ false = grind (arith, nat_tests, long) in rw (e, is.1) refl
 reads_only bytes (Err fault) (inr is) =
     let e : nat_le (length bytes) most_bytes ≡ true = test-le (length bytes) most_bytes is.0 in

@@ -5,7 +5,7 @@ use Rattle.text_lines.specs.Lines.{lines_of}
 use Rattle.sas_reader.specs.Reading.{most_bytes}
 use Rattle.sas_reader.specs.Formats.{Format, Done, Line, value_of}
 use Rattle.sas_reader.specs.TaskText.{task as the_task}
-use Rattle.sas_task.specs.Refusals.{brought}
+use Rattle.sas_task.specs.Refusals.{canonical_parts}
 use Rattle.sas_task.specs.declared.contents.Parts.{Parts}
 use Rattle.sas_reader.specs.declared.faults.SasFault.{SasFault}
 use Rattle.sas_reader.specs.declared.faults.SasFault.TheVariants.{CutShort, Trailing, TooLarge}
@@ -40,7 +40,7 @@ pub record IsTextOf (bytes : List ℕ) (task : Parts) : Type 0 where
   pub within : length bytes ≤ most_bytes
   pub given : Parts
   pub lines : after the_task 1 (lines_of bytes) ≡ Some (Done given)
-  pub brought : task ≡ brought given
+  pub canonical_parts : task ≡ canonical_parts given
 
 -- the first fault of bytes
 abbrev pub IsFirstFaultOf : List ℕ → SasFault → Type 0

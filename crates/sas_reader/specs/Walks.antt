@@ -7,7 +7,7 @@ use Rattle.sas_reader.specs.Formats.{Format, Done, Line, Kind, Value, value_of}
 use Rattle.sas_reader.specs.TaskText.{task, preconditions}
 use Rattle.sas_task.specs.declared.contents.Fact.{Fact}
 use Rattle.sas_task.specs.declared.contents.Effect.{Effect}
-use Rattle.sas_task.specs.Refusals.{brought}
+use Rattle.sas_task.specs.Refusals.{canonical_parts}
 use Rattle.sas_task.specs.declared.contents.Parts.{Parts}
 use Rattle.sas_reader.specs.declared.faults.SasFault.{SasFault}
 use Rattle.sas_reader.specs.declared.faults.SasFault.TheVariants.{CutShort, Trailing, TooLarge}
@@ -66,4 +66,4 @@ changed pre effects read = read >>= λ r. Ok ((pre ++ preconditions r.0, effects
 
 -- the task of a text: what the text gives, with rules of defaults left out and preconditions in order; or the first fault
 unfoldable pub task_of : List ℕ → Result Parts SasFault
-task_of bytes = parts_of bytes >>= λ parts. Ok (brought parts)
+task_of bytes = parts_of bytes >>= λ parts. Ok (canonical_parts parts)

@@ -8,7 +8,7 @@ ghost use Rattle.sas_reader.specs.TaskText.{opening as the_opening, ends as the_
 ghost use Rattle.sas_reader.specs.TaskText.{rest as the_rest, task as the_task};
 ghost use Rattle.sas_reader.specs.Walks.{fault_of, walk, trailing, parts_in, parts_of, task_of};
 ghost use Rattle.sas_reader.specs.declared.faults.SasFault.{SasFault as TheFault};
-ghost use Rattle.sas_task.specs.Refusals.{brought, refusal_of};
+ghost use Rattle.sas_task.specs.Refusals.{canonical_parts, refusal_of};
 
 use crate::conditions::{read_goal, read_groups};
 use crate::faults::{SasError, SasFault};

@@ -10,7 +10,7 @@ use Rattle.sas_task.specs.WellFormed.{IsWellFormed, is_operator, is_rule, is_def
 use Rattle.sas_task.proofs.Admissible.{is_admissible_operator, is_admissible_rule, IsAdmissible}
 use Rattle.sas_task.specs.Costs.{is_unit_cost}
 use Rattle.sas_task.specs.Order.{in_order, has_few_prevail}
-use Rattle.sas_task.specs.Refusals.{above, too_large, condition_counts, name_lengths, first_cause, conditions_of, names_of, is_wide, is_sound_effect, is_sound_operator, is_sound_rule, is_sound, is_good_rule, refusal_of, brought}
+use Rattle.sas_task.specs.Refusals.{above, too_large, condition_counts, name_lengths, first_cause, conditions_of, names_of, is_wide, is_sound_effect, is_sound_operator, is_sound_rule, is_sound, is_good_rule, refusal_of, canonical_parts}
 use Rattle.sas_task.specs.declared.contents.Fact.{Fact}
 use Rattle.sas_task.specs.declared.contents.Variable.{Variable}
 use Rattle.sas_task.specs.declared.contents.Effect.{Effect}
@@ -291,9 +291,9 @@ admissible parts formed = record {
 pub refusal_of-formed : (parts : Parts) → IsWellFormed parts → refusal_of parts ≡ None
 refusal_of-formed parts formed = admitted parts (admissible parts formed)
 
--- and where their preconditions are in order, they are brought to themselves
-pub brought-formed : (parts : Parts) → IsWellFormed parts → map in_order parts.operators ≡ parts.operators → brought parts ≡ parts
-brought-formed parts formed ordered = rw (ordered, no_defaults parts.variables parts.init parts.rules formed.rules) refl
+-- and where their preconditions are in order, they are canonical_parts to themselves
+pub canonical_parts-formed : (parts : Parts) → IsWellFormed parts → map in_order parts.operators ≡ parts.operators → canonical_parts parts ≡ parts
+canonical_parts-formed parts formed ordered = rw (ordered, no_defaults parts.variables parts.init parts.rules formed.rules) refl
   where
     no_defaults : (variables : List Variable) (init : List ℕ) (rules : List Rule) → list_all (is_rule variables init) rules ≡ true → filter (λ r. not (is_default init r.head)) rules ≡ rules
     no_defaults variables init [] all = refl

@@ -3,7 +3,7 @@ use Rattle.std.specs.Prelude.{◌≡◌, ℕ, List, [], ◌∷◌, ◌++◌, len
 use Rattle.std.proofs.Common.{refl, sym, ap, ◌∙◌}
 use Rattle.std.specs.Option.{option_or}
 use Rattle.sas_task.specs.Limits.{most_listed}
-use Rattle.sas_task.specs.Refusals.{above, first_cause, causes, too_large, conditions_of, condition_counts, refusal_of, brought, unless}
+use Rattle.sas_task.specs.Refusals.{above, first_cause, causes, too_large, conditions_of, condition_counts, refusal_of, canonical_parts, unless}
 use Rattle.sas_task.specs.WellFormed.{is_default}
 use Rattle.sas_task.specs.Order.{in_order}
 use Rattle.sas_task.specs.declared.contents.Operator.{Operator}
@@ -81,7 +81,7 @@ no_conditions parts first operators rules passed joined by_operators by_rules =
 -- what `bring` makes
 pub brought_by : (parts : Parts) (operators : List Operator) (rules : List Rule) → too_large Conditions most_listed (condition_counts parts) ≡ None → operators ≡ map in_order parts.operators →
     rules ≡ filter (λ r. not (is_default parts.init r.head)) parts.rules →
-    ◌≡◌ {A = Result Parts TaskError} (Ok (record parts { operators = operators; rules = rules })) (unless (too_large Conditions most_listed (condition_counts parts)) (brought parts))
+    ◌≡◌ {A = Result Parts TaskError} (Ok (record parts { operators = operators; rules = rules })) (unless (too_large Conditions most_listed (condition_counts parts)) (canonical_parts parts))
 brought_by parts operators rules none a b = rw (none, a, b) refl
 
 -- the value that was let through

@@ -1,4 +1,4 @@
--- What is brought about of accepted parts is well formed.
+-- What is canonical_parts about of accepted parts is well formed.
 use Rattle.std.specs.Prelude.{◌≡◌, ℕ, ◌+◌, ◌≤◌, List, [], ◌∷◌, length, Bool, true, false, ◌&&◌, not, nat_eq, nat_lt, nat_le, map, filter, filter_map, flat_map, slice_get, zero, suc, Option, Some, None, is_some, if◌then◌else◌}
 use Rattle.std.proofs.Common.{arith, refl, sym, ap, ◌∙◌, subst}
 use Rattle.std.specs.List.{list_all, cons_option}
@@ -10,7 +10,7 @@ use Rattle.sas_task.specs.Limits.{most_variables, most_facts, most_operators, mo
 use Rattle.sas_task.specs.WellFormed.{IsWellFormed, is_derived, is_short, is_few, is_layered, is_variable, is_fact, are_facts, is_effect, has_few_conditions, is_operator, starts, is_default, is_layered_rule, is_rule, fact_count}
 use Rattle.sas_task.specs.Costs.{is_unit_cost}
 use Rattle.sas_task.specs.Order.{ordered, in_order, prevail_count, has_few_prevail, IsInOrder}
-use Rattle.sas_task.specs.Refusals.{conditions_of, names_of, is_wide, is_sound_effect, is_sound_operator, is_sound_rule, is_sound, is_good_rule, refusal_of, brought}
+use Rattle.sas_task.specs.Refusals.{conditions_of, names_of, is_wide, is_sound_effect, is_sound_operator, is_sound_rule, is_sound, is_good_rule, refusal_of, canonical_parts}
 use Rattle.sas_task.proofs.Admission.{IsAccepted}
 use Rattle.sas_task.proofs.Accepting.{is_accepted}
 use Rattle.sas_task.specs.declared.contents.Variable.{Variable}
@@ -176,7 +176,7 @@ unit metric true is none = refl
 unit true false is none = let k : true ≡ false = none in cc
 unit false false is none = let k : true ≡ false = is in cc
 
-pub forms : (parts : Parts) → IsAccepted parts → IsWellFormed (brought parts)
+pub forms : (parts : Parts) → IsAccepted parts → IsWellFormed (canonical_parts parts)
 forms parts is =
     let sound = sound_parts parts is.sound in
     let rule_conditions = within-map most_listed (λ r. length r.conds) parts.rules (both (within most_listed (flat_map conditions_of parts.operators)) (within most_listed (map (λ r. length r.conds) parts.rules)) (sym (list_all-append (λ n. nat_le n most_listed) (flat_map conditions_of parts.operators) (map (λ r. length r.conds) parts.rules)) ∙ is.conditions)).1 in
@@ -201,7 +201,7 @@ forms parts is =
       rules = rules_pass parts.variables parts.init parts.rules rule_conditions sound.rules is.good_rules;
     }
 
-pub brought_forms : (parts : Parts) → refusal_of parts ≡ None → IsWellFormed (brought parts)
+pub brought_forms : (parts : Parts) → refusal_of parts ≡ None → IsWellFormed (canonical_parts parts)
 brought_forms parts none = forms parts (is_accepted parts none)
 
 -- the same of the pieces that `accepted` puts together

@@ -108,9 +108,9 @@ causes parts =
 unfoldable pub refusal_of : Parts → Option TaskError
 refusal_of parts = first_cause (causes parts)
 
--- Rules that give a default are left out, and preconditions are brought into order.
-abbrev pub brought : Parts → Parts
-brought parts = record parts { operators = map in_order parts.operators; rules = filter (λ r. not (is_default parts.init r.head)) parts.rules }
+-- Rules that give a default are left out, and preconditions are canonical_parts into order.
+abbrev pub canonical_parts : Parts → Parts
+canonical_parts parts = record parts { operators = map in_order parts.operators; rules = filter (λ r. not (is_default parts.init r.head)) parts.rules }
 
 -- a value, unless there is a cause to refuse it
 abbrev pub unless : {A : Type 0} → Option TaskError → A → Result A TaskError

@@ -12,7 +12,7 @@ ghost use Rattle.sas_task.specs.Refusals.{is_sound_operator as sound_operator};
 ghost use Rattle.sas_task.specs.Refusals.{is_sound_rule as sound_rule, is_sound as sound};
 ghost use Rattle.sas_task.specs.Refusals.{is_wide as wide, is_good_rule as good_rule, causes};
 ghost use Rattle.sas_task.specs.Refusals.{first_cause, too_large, condition_counts, refusal_of};
-ghost use Rattle.sas_task.specs.Refusals.{brought, unless};
+ghost use Rattle.sas_task.specs.Refusals.{canonical_parts, unless};
 ghost use Rattle.sas_task.specs.declared.refusals.What.TheVariants.{Conditions};
 
 use crate::conditions::{are_facts, is_derived, is_fact};
@@ -31,7 +31,7 @@ use lama_num::Seq;
 // sizes
 
 /// Refuses what there is too much of, up to the operators.
-fn refuse_many(parts: &Parts) -> Result<(), TaskError>
+fn refuse_sizes_before_effects(parts: &Parts) -> Result<(), TaskError>
     ensures { result ≡ unless (first_cause (take 8 (causes parts.now))) tt }
 {
     refuse(
@@ -51,7 +51,7 @@ fn refuse_many(parts: &Parts) -> Result<(), TaskError>
 }
 
 /// Refuses what there is too much of, from the effects on.
-fn refuse_much(parts: &Parts) -> Result<(), TaskError>
+fn refuse_sizes_from_effects(parts: &Parts) -> Result<(), TaskError>
     ensures { result ≡ unless (first_cause (take 4 (drop 9 (causes parts.now)))) tt }
 {
     refuse(What::Effects, effects_above(&parts.operators))?;
@@ -234,7 +234,7 @@ fn refuse_others(parts: &Parts) -> Result<(), TaskError>
     requires { length parts.now.variables ≤ most_variables }
     ensures { result ≡ unless (first_cause (drop 9 (causes parts.now))) tt }
 {
-    refuse_much(parts)?;
+    refuse_sizes_from_effects(parts)?;
     refuse_wide(&parts.variables)?;
     refuse_unsound(parts)?;
     refuse_costs(parts)?;
@@ -245,7 +245,7 @@ fn refuse_others(parts: &Parts) -> Result<(), TaskError>
 /// for those who made the tests as the parts came, as the reader of texts.
 pub fn accepted(parts: Parts) -> Task
     requires { refusal_of parts ≡ None }
-    ensures { result ≡ brought parts }
+    ensures { result ≡ canonical_parts parts }
 {
     let mut operators = parts.operators.into_vec();
     put_in_order(&mut operators);
@@ -265,9 +265,9 @@ pub fn accepted(parts: Parts) -> Task
 /// What is made of parts: preconditions are in order, and rules that give a default are left out.
 /// Refuses a number of conditions that is above the limit.
 #[tactic(auto, using(crate::proofs::Above::above_append))]
-fn bring(parts: Parts) -> Result<Parts, TaskError>
+fn canonical(parts: Parts) -> Result<Parts, TaskError>
     ensures { result
-        ≡ unless (too_large Conditions most_listed (condition_counts parts)) (brought parts) }
+        ≡ unless (too_large Conditions most_listed (condition_counts parts)) (canonical_parts parts) }
 {
     let mut operators = parts.operators.into_vec();
     let conditions = order_operators(&mut operators);
@@ -289,17 +289,17 @@ fn bring(parts: Parts) -> Result<Parts, TaskError>
 }
 
 /// The task with these parts. Rules that give a variable its default are left out, and the
-/// preconditions of each operator are brought into the order of the canonical task text. Takes no
+/// preconditions of each operator are put into the order of the canonical task text. Takes no
 /// memory that its answer would depend on, and drops the parts where it refuses them.
 ///
 /// Where an operator has many preconditions, they are ordered by tables, in time that grows with
 /// their number times its logarithm; with no memory for tables, with the square of their number.
 pub fn check(parts: Parts) -> Result<Task, TaskError>
-    ensures { result ≡ unless (refusal_of parts) (brought parts) }
+    ensures { result ≡ unless (refusal_of parts) (canonical_parts parts) }
 {
-    refuse_many(&parts)?;
+    refuse_sizes_before_effects(&parts)?;
     let others = refuse_others(&parts);
-    let brought = bring(parts)?;
+    let ordered = canonical(parts)?;
     others?;
-    Ok(Task::new(brought))
+    Ok(Task::new(ordered))
 }

@@ -13,7 +13,7 @@ use Rattle.sas_task.specs.WellFormed.{is_short, is_few, is_variable, is_fact, ar
 use Rattle.sas_task.specs.Order.{in_order, has_few_prevail}
 use Rattle.sas_task.proofs.Admissible.{IsAdmissible, is_admissible_operator}
 use Rattle.sas_task.proofs.Admission.{admitted}
-use Rattle.sas_task.specs.Refusals.{refusal_of, brought}
+use Rattle.sas_task.specs.Refusals.{refusal_of, canonical_parts}
 use Rattle.sas_task.specs.declared.contents.Fact.{Fact}
 use Rattle.sas_task.specs.declared.contents.Variable.{Variable}
 use Rattle.sas_task.specs.declared.contents.Operator.{Operator}
@@ -270,7 +270,7 @@ delivery_admissible n low = record {
 pub delivery_accepted : (n : ℕ) → IsPackageCount n → refusal_of (delivery n) ≡ None
 delivery_accepted n count = admitted (delivery n) (delivery_admissible n count.high)
 
-pub delivery_brought : (n : ℕ) → brought (delivery n) ≡ delivery n
+pub delivery_brought : (n : ℕ) → canonical_parts (delivery n) ≡ delivery n
 unfolding delivery
 delivery_brought n = let ordered : map in_order (moves n ++ loads n) ≡ moves n ++ loads n = map-append in_order (moves n) (loads n) ∙ ap (λ xs. xs ++ map in_order (loads n)) (in_order_moves n) ∙ ap (λ xs. moves n ++ xs) (in_order_loads n) in rw ordered refl
 

@@ -10,7 +10,7 @@ use Rattle.text_lines.specs.Lines.{cut_lines, onto, is_margin, without_left, wit
 use Rattle.text_lines.specs.Texts.{has_no_feed, begins_bare, is_line}
 use Rattle.sas_task.specs.Limits.{longest_name}
 use Rattle.sas_task.specs.Order.{in_order}
-use Rattle.sas_task.specs.Refusals.{brought}
+use Rattle.sas_task.specs.Refusals.{canonical_parts}
 use Rattle.sas_task.proofs.TestLaws.{and_true, all-one}
 use Rattle.sas_task.specs.declared.contents.Variable.{Variable}
 use Rattle.sas_task.specs.declared.contents.Operator.{Operator}
@@ -186,5 +186,5 @@ names_read bytes parts text =
     let given = text.given in
     let all = gives_after (λ parts. has_line_names parts ≡ true) task (lines_of bytes) 1 given (is_line-lines_of bytes) text.lines gives_task in
     let each = both (list_all has_names given.variables) (list_all (λ o. is_line_name o.name) given.operators) all in
-    subst (λ p. has_line_names p ≡ true) (sym text.brought)
+    subst (λ p. has_line_names p ≡ true) (sym text.canonical_parts)
     (and_true (list_all has_names given.variables) _ each.0 (list_all-map (λ o. is_line_name o.name) in_order given.operators ∙ each.1))

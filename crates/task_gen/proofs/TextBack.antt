@@ -14,7 +14,7 @@ use Rattle.sas_reader.specs.FirstFault.{after, IsTextOf}
 use Rattle.sas_reader.specs.declared.faults.SasFault.{SasFault}
 use Rattle.sas_task.specs.WellFormed.{IsWellFormed, is_rule, is_default}
 use Rattle.sas_task.specs.Order.{ordered, in_order, has_one_value_each, IsInOrder}
-use Rattle.sas_task.specs.Refusals.{brought}
+use Rattle.sas_task.specs.Refusals.{canonical_parts}
 use Rattle.sas_task.specs.declared.contents.Variable.{Variable}
 use Rattle.sas_task.specs.declared.contents.Operator.{Operator}
 use Rattle.sas_task.specs.declared.contents.Rule.{Rule}
@@ -43,7 +43,7 @@ after-walk {A} (Line kind onward) (line ∷ lines) n m x is =
       | Err fault ↦ λ bad. let k : ◌≡◌ {A = Result (A × Place) SasFault} (Err fault) (Ok (x, record { left = []; line = m })) = rw bad at is in cc
     ] refl
 
-text_of_given : (parts : Parts) → IsWellFormed parts → has_line_names parts ≡ true → length (task_text parts) ≤ most_bytes → IsTextOf (task_text parts) (brought (given parts))
+text_of_given : (parts : Parts) → IsWellFormed parts → has_line_names parts ≡ true → length (task_text parts) ≤ most_bytes → IsTextOf (task_text parts) (canonical_parts (given parts))
 text_of_given parts formed names short =
     let lines = task_lines parts in
     let read = reads_task parts formed names in
@@ -53,7 +53,7 @@ text_of_given parts formed names short =
       within = short;
       given = given parts;
       lines = rw cut (after-walk task lines 1 (1 + length lines) (given parts) walked);
-      brought = refl;
+      canonical_parts = refl;
     }
 
 -- what is read is the task
@@ -87,7 +87,7 @@ pub read_back : (parts : Parts) → IsWellFormed parts → has_line_names parts 
 read_back parts formed names short =
     let kept : filter (λ r. not (is_default parts.init r.head)) parts.rules ≡ parts.rules = no_defaults parts.variables parts.init parts.rules formed.rules in
     record {
-      again = brought (given parts);
+      again = canonical_parts (given parts);
       text = text_of_given parts formed names short;
       others = ap (λ rs. record parts { operators = map in_order (map in_order parts.operators); rules = rs }) kept;
       operators = each_in_order parts.operators formed.order;

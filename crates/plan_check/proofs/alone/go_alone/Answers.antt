@@ -13,29 +13,29 @@ use Rattle.plan_check.proofs.alone.go_alone.Goals as goal
 pub returns-in-empty-clause-fault : goal.returns-in-empty-clause-fault
 returns-in-empty-clause-fault c =
     let lt : c.loop-i.i < length c.args.names.now = omega arith in
-    stuck_fault c.args.setup.now.task.now c.args.names.now c.loop-i.links.items c.loop-i.i c.loop-i.cost c.look.new.self.here.items c.index-names-i.result c.as_slice.result.now (c.loop-i.i + 1) c.no_candidate.result
-    (subst (λ (v : Vec ℕ Global). IsAlone c.args.setup.now.task.now c.args.names.now c.loop-i.links.items c.loop-i.i v.items c.loop-i.cost) (sym c.look.ensures.here) c.loop-i.invariant.alone)
+    stuck_fault c.args.setup.now.task.now c.args.names.now c.loop-i.links.items c.loop-i.i c.loop-i.cost c.find_candidates.new.self.here.items c.index-names-i.result c.as_slice.result.now (c.loop-i.i + 1) c.no_candidate.result
+    (subst (λ (v : Vec ℕ Global). IsAlone c.args.setup.now.task.now c.args.names.now c.loop-i.links.items c.loop-i.i v.items c.loop-i.cost) (sym c.find_candidates.ensures.here) c.loop-i.invariant.alone)
     (slice_get_read c.args.names.now (length c.args.names.now) c.loop-i.i c.index-names-i.result refl lt c.index-names-i.is)
-    (c.as_slice.ensures.value ∙ c.in_ok-look.ensures.found ∙ ap (candidates c.args.setup.now.task.now c.look.new.self.here.items) c.deref.ensures)
+    (c.as_slice.ensures.value ∙ c.in_ok-find_candidates.ensures.found ∙ ap (candidates c.args.setup.now.task.now c.find_candidates.new.self.here.items) c.deref.ensures)
     c.in-empty.len_below (omega arith)
     (c.no_candidate.ensures ∙ ap (λ n. if list_any (has_name n) c.args.setup.now.task.now.operators then NotApplicable (c.loop-i.i + 1) else NoOperator (c.loop-i.i + 1)) c.deref-in-empty.ensures) lt
 
-pub go_on-cost-requires-clause-applicable : goal.go_on-cost-requires-clause-applicable
-go_on-cost-requires-clause-applicable c =
-    one_applicable c.args.setup.now.task.now c.look.new.self.here.items c.deref.result.now c.as_slice.result.now (c.as_slice.ensures.value ∙ c.in_ok-look.ensures.found) c.in-len1.len_at_least c.in-len1.len_below
+pub apply-cost-requires-clause-applicable : goal.apply-cost-requires-clause-applicable
+apply-cost-requires-clause-applicable c =
+    one_applicable c.args.setup.now.task.now c.find_candidates.new.self.here.items c.deref.result.now c.as_slice.result.now (c.as_slice.ensures.value ∙ c.in_ok-find_candidates.ensures.found) c.in-len1.len_at_least c.in-len1.len_below
 
 pub loop-i-preserved : goal.loop-i-preserved
 loop-i-preserved c =
     let lt : c.loop-i.i < length c.args.names.now = omega arith in
     let link : Link = record { from = c.saturating_sub-from.result; op = slice_index c.as_slice.result.now 0 } in
     record {
-      ready = c.go_on-cost.ensures.ready;
+      ready = c.apply-cost.ensures.ready;
       alone = rw c.in_ok-push-in-len1.ensures.items
-          (alone_more c.args.setup.now.task.now c.args.names.now c.loop-i.links.items c.loop-i.i c.loop-i.cost c.look.new.self.here.items c.index-names-i.result
-          (subst (λ (v : Vec ℕ Global). IsAlone c.args.setup.now.task.now c.args.names.now c.loop-i.links.items c.loop-i.i v.items c.loop-i.cost) (sym c.look.ensures.here) c.loop-i.invariant.alone)
+          (alone_more c.args.setup.now.task.now c.args.names.now c.loop-i.links.items c.loop-i.i c.loop-i.cost c.find_candidates.new.self.here.items c.index-names-i.result
+          (subst (λ (v : Vec ℕ Global). IsAlone c.args.setup.now.task.now c.args.names.now c.loop-i.links.items c.loop-i.i v.items c.loop-i.cost) (sym c.find_candidates.ensures.here) c.loop-i.invariant.alone)
           (slice_get_read c.args.names.now (length c.args.names.now) c.loop-i.i c.index-names-i.result refl lt c.index-names-i.is)
-          (slice_index c.as_slice.result.now 0) c.go_on-cost.result c.go_on-cost.new.self.here.items link (omega (arith, c.requires.few))
-          (sym (c.as_slice.ensures.value ∙ c.in_ok-look.ensures.found ∙ ap (candidates c.args.setup.now.task.now c.look.new.self.here.items) c.deref.ensures) ∙ one_is c.as_slice.result.now c.in-len1.len_at_least c.in-len1.len_below)
-          c.go_on-cost.ensures.here c.go_on-cost.ensures.cost c.saturating_sub-from.ensures refl);
-      cost_fits = omega (arith, c.go_on-cost.ensures.low);
+          (slice_index c.as_slice.result.now 0) c.apply-cost.result c.apply-cost.new.self.here.items link (omega (arith, c.requires.few))
+          (sym (c.as_slice.ensures.value ∙ c.in_ok-find_candidates.ensures.found ∙ ap (candidates c.args.setup.now.task.now c.find_candidates.new.self.here.items) c.deref.ensures) ∙ one_is c.as_slice.result.now c.in-len1.len_at_least c.in-len1.len_below)
+          c.apply-cost.ensures.here c.apply-cost.ensures.cost c.saturating_sub-from.ensures refl);
+      cost_fits = omega (arith, c.apply-cost.ensures.low);
     }

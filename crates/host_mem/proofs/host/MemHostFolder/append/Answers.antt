@@ -10,7 +10,7 @@ use Rattle.host_mem.proofs.host.MemHostFolder.append.Goals as goal
 pub returns-clause-keeps : goal.returns-clause-keeps
 returns-clause-keeps c =
     rw (← c.self.view_is) (logged_keeps _ c.log.result _ _ (first_held (reverse c.self.inside.files.items)) _ _ (Grew c.args.name.now c.args.piece.now c.share.result (c.bytes_held-old.result.now ++ take c.share.result c.args.piece.now)) _ _ _ _ refl refl c.log.ensures.later c.log.ensures.failed
-    (c.log.ensures.logged _ c.grew-change.ensures))
+    (c.log.ensures.logged _ c.growth-change.ensures))
 
 pub returns-clause-does : goal.returns-clause-does
 returns-clause-does c =
@@ -21,7 +21,7 @@ returns-clause-does c =
     (grew_last (first_held (reverse c.self.inside.files.items)) (reverse c.self.inside.journal.items) c.args.name.now c.args.piece.now c.bytes_held-old.result.now c.share.result held)
     (λ files none is. all_grew _ files c.args.name.now c.args.piece.now c.share.result c.share.ensures.share none)
     (λ files some is. half_grew _ files c.args.name.now c.args.piece.now c.share.result c.share.ensures.share some)
-    (c.log.ensures.logged _ c.grew-change.ensures))
+    (c.log.ensures.logged _ c.growth-change.ensures))
 
 pub returns-clause-changes : goal.returns-clause-changes
 returns-clause-changes c = changes_append _ _ _ _ _ _ _ _ (returns-clause-does c)

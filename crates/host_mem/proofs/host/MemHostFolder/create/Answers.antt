@@ -10,13 +10,13 @@ use Rattle.host_mem.proofs.host.MemHostFolder.create.Goals as goal
 pub returns-clause-keeps : goal.returns-clause-keeps
 returns-clause-keeps c =
     rw (← c.self.view_is) (logged_keeps _ c.log.result _ _ (first_held (reverse c.self.inside.files.items)) _ _ (Made c.args.name.now) _ _ _ _ refl refl c.log.ensures.later c.log.ensures.failed
-    (c.log.ensures.logged (Made c.args.name.now) c.made-change.ensures))
+    (c.log.ensures.logged (Made c.args.name.now) c.creation-change.ensures))
 
 pub returns-clause-does : goal.returns-clause-does
 returns-clause-does c =
     rw (← c.self.view_is) (effect_asked _ _ c.log.result _ _ (first_held (reverse c.self.inside.files.items)) _ _ (Made c.args.name.now) _ _ _ _ _ _ (λ files. insert files c.args.name.now [] ∷ []) (λ files. insert files c.args.name.now [] ∷ [])
     (c.next_fault-fault.ensures.fault ∙ ap (λ failing. fault_of failing Create (called c.self.inside.calls Create)) c.deref.ensures.value)
-    (λ files is. refl) (λ files none is. refl) (λ files some is. refl) (c.log.ensures.logged (Made c.args.name.now) c.made-change.ensures))
+    (λ files is. refl) (λ files none is. refl) (λ files some is. refl) (c.log.ensures.logged (Made c.args.name.now) c.creation-change.ensures))
 
 pub returns-clause-changes : goal.returns-clause-changes
 returns-clause-changes c = changes_once _ _ _ _ _ _ _ (returns-clause-does c)

@@ -11,7 +11,7 @@ use Rattle.host_mem.proofs.host.MemHostFolder.rename.Goals as goal
 pub returns-clause-keeps : goal.returns-clause-keeps
 returns-clause-keeps c =
     rw (← c.self.view_is) (logged_keeps _ c.log.result _ _ (first_held (reverse c.self.inside.files.items)) _ _ (Moved c.args.old.now c.args.new.now c.bytes_held-bytes.result.now) _ _ _ _ refl refl c.log.ensures.later c.log.ensures.failed
-    (c.log.ensures.logged _ c.moved-change.ensures))
+    (c.log.ensures.logged _ c.renaming-change.ensures))
 
 pub returns-clause-does : goal.returns-clause-does
 returns-clause-does c =
@@ -23,7 +23,7 @@ returns-clause-does c =
     (λ files is. refl)
     (λ files none is. moved_is (first_held (reverse c.self.inside.files.items)) (reverse c.self.inside.journal.items) c.args.old.now c.args.new.now _ held some files is)
     (λ files half is. moved_is (first_held (reverse c.self.inside.files.items)) (reverse c.self.inside.journal.items) c.args.old.now c.args.new.now _ held some files is)
-    (c.log.ensures.logged _ c.moved-change.ensures))
+    (c.log.ensures.logged _ c.renaming-change.ensures))
 
 pub returns-clause-changes : goal.returns-clause-changes
 returns-clause-changes c = changes_once _ _ _ _ _ _ _ (returns-clause-does c)

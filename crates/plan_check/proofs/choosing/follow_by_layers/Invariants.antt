@@ -2,7 +2,7 @@ use Rattle.std.proofs.Common.{◌≡◌, ◌≤◌, length, None}
 use Rattle.plan_check.specs.Verdicts.{first_fault}
 use Rattle.plan_check.specs.Layers.{IsAfter}
 use Rattle.plan_check.specs.Walking.{IsWalker}
-use Rattle.plan_check.proofs.choosing.go_on.Given as goal
+use Rattle.plan_check.proofs.choosing.follow_by_layers.Given as goal
 
 abbrev pub invariant-loop-count : goal.invariant-loop-count
 invariant-loop-count l = record {

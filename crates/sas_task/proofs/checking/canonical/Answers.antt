@@ -1,6 +1,6 @@
 use Rattle.std.proofs.Common.{rules}
 use Rattle.sas_task.proofs.Answering.{no_conditions, brought_by}
-use Rattle.sas_task.proofs.checking.bring.Goals as goal
+use Rattle.sas_task.proofs.checking.canonical.Goals as goal
 
 pub returns : goal.returns
 returns c =

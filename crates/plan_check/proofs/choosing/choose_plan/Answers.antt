@@ -3,8 +3,8 @@ use Rattle.std.specs.Prelude.{option_map}
 use Rattle.std.specs.declared.alloc.Global.{Global}
 use Rattle.plan_check.specs.Verdicts.{ends}
 use Rattle.plan_check.proofs.Finding.{leads_at, least_is, plan_some, plan_none}
-use Rattle.plan_check.proofs.choosing.told.Goals as goal
-use Rattle.plan_check.proofs.choosing.told.Goals.{in-Some+in_ok-trace-in-Some, in-None}
+use Rattle.plan_check.proofs.choosing.choose_plan.Goals as goal
+use Rattle.plan_check.proofs.choosing.choose_plan.Goals.{in-Some+in_ok-trace-in-Some, in-None}
 
 pub pick-goals-requires-clause-ends : goal.pick-goals-requires-clause-ends
 pick-goals-requires-clause-ends c = (ends c.args.setup.now.task.now (take (length c.args.names.now) c.args.names.now), c.requires.end.layer.words)

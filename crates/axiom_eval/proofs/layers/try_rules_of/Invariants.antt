@@ -2,7 +2,7 @@ use Rattle.std.proofs.Common.{◌≡◌, ℕ, ◌<◌, ◌≤◌, List, length, 
 use Rattle.std.specs.Prelude.{vec_capacity}
 use Rattle.axiom_eval.specs.Rules.{layer_at}
 use Rattle.axiom_eval.specs.Settling.{IsHearing, IsBetween}
-use Rattle.axiom_eval.proofs.layers.try_each.Given as goal
+use Rattle.axiom_eval.proofs.layers.try_rules_of.Given as goal
 
 abbrev pub invariant-loop-place : goal.invariant-loop-place
 invariant-loop-place l = record {

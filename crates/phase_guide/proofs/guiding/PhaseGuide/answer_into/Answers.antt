@@ -10,12 +10,12 @@ use Rattle.phase_guide.specs.Guides.{Guiding, IsFor}
 use Rattle.phase_guide.specs.Kinds.{three_of, value_of}
 use Rattle.phase_guide.specs.Relaxings.{Tells, helpful_of}
 use Rattle.phase_guide.proofs.Answering.{says_dead, says_found, helpful_within}
-use Rattle.phase_guide.proofs.guiding.PhaseGuide.say.Goals as goal
+use Rattle.phase_guide.proofs.guiding.PhaseGuide.answer_into.Goals as goal
 
 pub returns-in_default : goal.returns-in_default
 returns-in_default c =
-    says_dead c.args.task.now c.args.self.now c.args.state.now c.args.found c.tell.new.out c.requires.task c.requires.found c.in_default.is
-    c.tell.ensures.dead c.tell.ensures.estimates (c.tell.ensures.preferred ∙ c.emptied-preferred.ensures)
+    says_dead c.args.task.now c.args.self.now c.args.state.now c.args.found c.fill_answer.new.out c.requires.task c.requires.found c.in_default.is
+    c.fill_answer.ensures.dead c.fill_answer.ensures.estimates (c.fill_answer.ensures.preferred ∙ c.emptied-preferred.ensures)
 
 pub prefer_into-requires-clause-helpful : goal.prefer_into-requires-clause-helpful
 prefer_into-requires-clause-helpful c =
@@ -25,17 +25,17 @@ prefer_into-requires-clause-helpful c =
 
 pub returns : goal.returns
 returns c =
-    subst (λ (g : Guiding). Answers c.args.task.now g.phase g.tracks.status.graph (has g.tracks.row) c.args.state.now c.tell-2.new.out) c.self.view_is
-    (says_found c.args.task.now (record { phase = c.self.inside.phase; relaxing = c.self.inside.relaxing; tracks = c.self.inside.tracks }) c.args.state.now c.args.found c.in-Some.costs c.helpful_if-helpful.result.now c.estimate.result c.tell-2.new.out
+    subst (λ (g : Guiding). Answers c.args.task.now g.phase g.tracks.status.graph (has g.tracks.row) c.args.state.now c.fill_answer-2.new.out) c.self.view_is
+    (says_found c.args.task.now (record { phase = c.self.inside.phase; relaxing = c.self.inside.relaxing; tracks = c.self.inside.tracks }) c.args.state.now c.args.found c.in-Some.costs c.helpful_if-helpful.result.now c.estimate.result c.fill_answer-2.new.out
     (subst (λ (g : Guiding). IsFor g c.args.task.now) (sym c.self.view_is) c.requires.task)
     (subst (λ (g : Guiding). Tells c.args.task.now g.phase.estimate c.args.state.now g.relaxing c.args.found) (sym c.self.view_is) c.requires.found)
     c.in-Some.is
     (record {
       lm = c.estimate.ensures;
       helpful_is = c.helpful_if-helpful.ensures ∙ ap (λ (b : Bool). cond b (helpful_of c.self.inside.relaxing) []) (c.has-by_ff.ensures ∙ ap (λ (gs : List GuideKind). has_guide gs Ff) c.deref.ensures);
-      dead = c.tell-2.ensures.dead;
-      estimates = c.tell-2.ensures.estimates ∙ (c.estimates.ensures ∙ ap (λ (gs : List GuideKind). three_of (map (value_of (record { add = c.in-Some.costs.add; ff = c.in-Some.costs.ff; lm = c.estimate.result })) gs)) c.deref-3.ensures);
-      preferred = c.tell-2.ensures.preferred ∙ (c.in_ok-prefer_into.ensures
+      dead = c.fill_answer-2.ensures.dead;
+      estimates = c.fill_answer-2.ensures.estimates ∙ (c.estimates.ensures ∙ ap (λ (gs : List GuideKind). three_of (map (value_of (record { add = c.in-Some.costs.add; ff = c.in-Some.costs.ff; lm = c.estimate.result })) gs)) c.deref-3.ensures);
+      preferred = c.fill_answer-2.ensures.preferred ∙ (c.in_ok-prefer_into.ensures
           ∙ (ap (λ (b : Bool). filter (λ op. is_among c.helpful_if-helpful.result.now op || (b && leads_on c.args.task.now c.self.inside.tracks.status.graph (has c.self.inside.tracks.row) c.args.state.now op)) c.args.applicable.now) (c.has-by_lm.ensures ∙ ap (λ (gs : List GuideKind). has_guide gs Lm) c.deref-2.ensures)
           ∙ ap (λ (ops : List ℕ). filter (λ op. is_among c.helpful_if-helpful.result.now op || (has_guide c.self.inside.phase.preferred Lm && leads_on c.args.task.now c.self.inside.tracks.status.graph (has c.self.inside.tracks.row) c.args.state.now op)) ops) c.requires.applicable));
     }))

@@ -1,7 +1,7 @@
 use Rattle.std.proofs.Common.{◌≡◌, ◌-◌, ◌+◌, sym, subst, arith, suc, length, None}
 use Rattle.plan_check.specs.Verdicts.{first_fault}
 use Rattle.plan_check.specs.Layers.{IsAfter}
-use Rattle.plan_check.proofs.choosing.go_on.Goals as goal
+use Rattle.plan_check.proofs.choosing.follow_by_layers.Goals as goal
 
 pub loop-count-init : goal.loop-count-init
 loop-count-init c =

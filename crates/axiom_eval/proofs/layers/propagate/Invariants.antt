@@ -2,7 +2,7 @@ use Rattle.std.proofs.Common.{ℕ, ◌+◌, ◌≤◌, List, length, false}
 use Rattle.std.specs.Prelude.{vec_capacity}
 use Rattle.axiom_eval.specs.Layers.{open_of}
 use Rattle.axiom_eval.specs.Settling.{IsHearing, IsBetween}
-use Rattle.axiom_eval.proofs.layers.look_at_all.Given as goal
+use Rattle.axiom_eval.proofs.layers.propagate.Given as goal
 
 abbrev pub invariant-loop-var : goal.invariant-loop-var
 invariant-loop-var l = record {

@@ -3,7 +3,7 @@ use Rattle.std.specs.Prelude.{vec_capacity}
 use Rattle.std.specs.List.{list_any}
 use Rattle.axiom_eval.specs.Layers.{open_of}
 use Rattle.axiom_eval.specs.Settling.{IsHearing, IsBetween}
-use Rattle.axiom_eval.proofs.layers.look_at.Given as goal
+use Rattle.axiom_eval.proofs.layers.try_watchers_of.Given as goal
 
 abbrev pub invariant-loop-place : goal.invariant-loop-place
 invariant-loop-place l = record {

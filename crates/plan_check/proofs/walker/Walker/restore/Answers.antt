@@ -2,7 +2,7 @@ use Rattle.std.proofs.Common.{◌≡◌, sym, ap, subst, arith, length, List, �
 use Rattle.plan_check.specs.Layers.{IsEnd}
 use Rattle.plan_check.proofs.Layering.{wide_at, unpacked}
 use Rattle.plan_check.proofs.Vectors.{written_back}
-use Rattle.plan_check.proofs.walker.Walker.go_to.Goals as goal
+use Rattle.plan_check.proofs.walker.Walker.restore.Goals as goal
 
 pub unpack-requires-clause-wide : goal.unpack-requires-clause-wide
 unpack-requires-clause-wide c =
