@@ -108,7 +108,7 @@ causes parts =
 unfoldable pub refusal_of : Parts → Option TaskError
 refusal_of parts = first_cause (causes parts)
 
--- Rules that give a default are left out, and preconditions are canonical_parts into order.
+-- Rules that give a default are left out, and preconditions stand in their order.
 abbrev pub canonical_parts : Parts → Parts
 canonical_parts parts = record parts { operators = map in_order parts.operators; rules = filter (λ r. not (is_default parts.init r.head)) parts.rules }
 
