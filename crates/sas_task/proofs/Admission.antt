@@ -291,7 +291,7 @@ admissible parts formed = record {
 pub refusal_of-formed : (parts : Parts) → IsWellFormed parts → refusal_of parts ≡ None
 refusal_of-formed parts formed = admitted parts (admissible parts formed)
 
--- and where their preconditions are in order, they are canonical_parts to themselves
+-- and where their preconditions are in order, they stay as they are
 pub canonical_parts-formed : (parts : Parts) → IsWellFormed parts → map in_order parts.operators ≡ parts.operators → canonical_parts parts ≡ parts
 canonical_parts-formed parts formed ordered = rw (ordered, no_defaults parts.variables parts.init parts.rules formed.rules) refl
   where

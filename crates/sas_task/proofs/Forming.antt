@@ -1,4 +1,4 @@
--- What is canonical_parts about of accepted parts is well formed.
+-- What is made of accepted parts is well formed.
 use Rattle.std.specs.Prelude.{◌≡◌, ℕ, ◌+◌, ◌≤◌, List, [], ◌∷◌, length, Bool, true, false, ◌&&◌, not, nat_eq, nat_lt, nat_le, map, filter, filter_map, flat_map, slice_get, zero, suc, Option, Some, None, is_some, if◌then◌else◌}
 use Rattle.std.proofs.Common.{arith, refl, sym, ap, ◌∙◌, subst}
 use Rattle.std.specs.List.{list_all, cons_option}

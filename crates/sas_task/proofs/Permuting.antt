@@ -258,7 +258,7 @@ single_values facts each var = from (on_variable var facts) refl
         let here : count_on var facts ≡ 1 = ap (λ v. count_on v facts) (sym f_on) ∙ one in
         omega (arith, here)
 
--- an operator whose preconditions were canonical_parts into order
+-- an operator whose preconditions were put into order
 pub is_in_order : (operator : Operator) → IsInOrder (in_order operator)
 is_in_order operator =
     let once = distinct operator.pre in
