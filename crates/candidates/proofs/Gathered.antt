@@ -6,7 +6,8 @@ use Rattle.sas_task.specs.declared.plans.Kept.{Kept}
 use Rattle.driver_core.specs.declared.events.Event.{Event}
 use Rattle.driver_core.specs.declared.settings.Setting.{Setting}
 use Rattle.driver_core.specs.Settings.{most_plans}
-use Rattle.driver_core.specs.Keeping.{kept_costs, is_kept, is_below}
+use Rattle.driver_core.specs.Keeping.{kept_costs, is_kept}
+use Rattle.lama_num.specs.Bounds.{is_below}
 use Rattle.driver_core.specs.Legal.{IsAllowed}
 use Rattle.driver_core.proofs.OneMoreEvent.{kept_costs-push_plan, kept_costs-push_other, kept_costs-few, IsOn-offer}
 use Rattle.driver_core.specs.Standing.{StandsFor}

@@ -15,7 +15,8 @@ use Rattle.plan_check.specs.declared.verdicts.Verdict.TheVariants.{Good, Bad}
 use Rattle.plan_text.specs.PlanText.{plan_text}
 use Rattle.plan_manager.specs.Keeping.{PlacesPlan}
 use Rattle.driver_core.specs.declared.events.Event.{Event}
-use Rattle.driver_core.specs.Keeping.{bound_of, is_below}
+use Rattle.driver_core.specs.Keeping.{bound_of}
+use Rattle.lama_num.specs.Bounds.{is_below}
 use Rattle.driver_core.specs.Turns.{Turn, offers}
 use Rattle.candidates.specs.declared.offers.Found.TheVariants.{Kept as IsKept, Dropped}
 use Rattle.candidates.specs.declared.reading.ReadError.{ReadError}

@@ -17,7 +17,7 @@ use Rattle.plan_check.specs.declared.verdicts.Verdict.{Verdict}
 use Rattle.plan_check.specs.declared.verdicts.Verdict.TheVariants.{Good, Bad}
 use Rattle.plan_check.specs.Verdicts.{unless, only_if, or_fault, has_operator, pairs_after, pairs_up_to, are_many, fault_after, first_fault, first_plan, least_cost, cheaper, compared, plan_in, plan_of, as_text, as_verdict, verdict_of}
 use Rattle.plan_check.specs.GoodPlans.{IsJudged, HasFewSteps}
-use Rattle.driver_core.specs.Keeping.{is_below}
+use Rattle.lama_num.specs.Bounds.{is_below}
 use Rattle.candidates.specs.declared.reading.Whole.{Whole}
 use Rattle.candidates.specs.declared.reading.Whole.TheVariants as whole
 use Rattle.candidates.specs.Whole.{whole_of}

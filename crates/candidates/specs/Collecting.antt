@@ -7,7 +7,8 @@ use Rattle.plan_check.specs.declared.verdicts.Verdict.{Verdict}
 use Rattle.driver_core.specs.declared.events.Event.{Event}
 use Rattle.driver_core.specs.declared.settings.Setting.{Setting}
 use Rattle.driver_core.specs.Settings.{most_plans}
-use Rattle.driver_core.specs.Keeping.{kept_costs, is_kept, is_below, bound_of}
+use Rattle.driver_core.specs.Keeping.{kept_costs, is_kept, bound_of}
+use Rattle.lama_num.specs.Bounds.{is_below}
 use Rattle.driver_core.specs.Running.{is_over_after, has_stopped}
 use Rattle.driver_core.specs.Standing.{StandsFor}
 use Rattle.driver_core.specs.States.{CoreState}

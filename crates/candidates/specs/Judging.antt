@@ -11,7 +11,8 @@ use Rattle.plan_check.specs.declared.verdicts.Verdict.TheVariants.{Good, Bad}
 use Rattle.plan_check.specs.Verdicts.{verdict_of}
 use Rattle.driver_core.specs.declared.events.Event.{Event}
 use Rattle.driver_core.specs.declared.settings.Setting.{Setting}
-use Rattle.driver_core.specs.Keeping.{bound_of, is_below}
+use Rattle.driver_core.specs.Keeping.{bound_of}
+use Rattle.lama_num.specs.Bounds.{is_below}
 use Rattle.driver_core.specs.Running.{is_over_after}
 use Rattle.driver_core.specs.Turns.{Turn, offers}
 use Rattle.candidates.specs.declared.offers.Candidate.{Candidate}

@@ -6,7 +6,7 @@ use Rattle.sas_task.specs.declared.plans.Kept.{Kept}
 use Rattle.sas_task.specs.Runs.{IsPlanOf}
 use Rattle.plan_text.specs.PlanText.{plan_text}
 use Rattle.plan_manager.specs.Keeping.{PlacesPlan}
-use Rattle.driver_core.specs.Keeping.{is_below}
+use Rattle.lama_num.specs.Bounds.{is_below}
 use Rattle.candidates.specs.declared.reading.ReadError.{ReadError}
 use Rattle.candidates.specs.declared.reading.ReadError.TheVariants.{Failed, NoMemory}
 

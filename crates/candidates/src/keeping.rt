@@ -8,7 +8,7 @@ ghost use Rattle.sas_task.specs.declared.plans.Kept.{Kept as TheKept};
 ghost use Rattle.plan_text.specs.PlanText.{plan_text};
 ghost use Rattle.plan_manager.specs.Keeping.{PlacesPlan};
 ghost use Rattle.driver_core.specs.declared.events.Event.{Event as TheEvent};
-ghost use Rattle.driver_core.specs.Keeping.{is_below};
+ghost use Rattle.lama_num.specs.Bounds.{is_below};
 ghost use Rattle.driver_core.specs.Turns.{turn_of, offers};
 ghost use Rattle.candidates.specs.Judging.{real_cost as the_real_cost, IsPlanIfGood, HeedsBound};
 ghost use Rattle.candidates.specs.Collecting.{IsInTurn, KeepsBelow, TakesIn};

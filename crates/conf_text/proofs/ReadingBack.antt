@@ -16,7 +16,8 @@ use Rattle.conf_text.specs.Tokens.{Spot, is_word_byte, next, after_blanks, token
 use Rattle.conf_text.specs.Rules.{Rule, ◌>>=◌, gives, behind, token, only, fixed, another, members}
 use Rattle.conf_text.specs.Grammar.{same_guide, has_guide, every_guide, may_prefer, guide_name, next_guide, guides, kind, truth, number, option_name, value, next_option, no_options, options, phase_of, is_weighted, phase, if_room, next_phase, repeat_value, repeat_last, iterated, single, config_by, config, end_of_text, whole, config_of, most_phases, highest_weight, highest_boost, usual_boost, greatest_pops, greatest_states}
 use Rattle.conf_text.specs.Accepted.{each_once, IsPhase, IsConfig}
-use Rattle.conf_text.specs.Written.{behind_commas, guide_text, guides_text, kind_text, is_normal, truth_text, same_truth, options_text, search_text, phase_text, phases_text, repeat_text, config_text}
+use Rattle.conf_text.specs.Written.{behind_commas, guide_text, guides_text, kind_text, truth_text, same_truth, options_text, search_text, phase_text, phases_text, repeat_text, config_text}
+use Rattle.sas_task.specs.Costs.{is_normal}
 use Rattle.conf_text.specs.declared.config.Config.{Config}
 use Rattle.conf_text.specs.declared.config.GuideKind.{GuideKind}
 use Rattle.conf_text.specs.declared.config.GuideKind.TheVariants.{Add, Ff, Lm}

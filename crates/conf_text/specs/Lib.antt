@@ -4,3 +4,4 @@ pub mod Grammar
 pub mod Rules
 pub mod Tokens
 pub mod Written
+pub mod AliasNames

@@ -8,6 +8,7 @@ use Rattle.conf_text.specs.declared.config.Config.{Config}
 use Rattle.conf_text.specs.declared.config.GuideKind.{GuideKind}
 use Rattle.conf_text.specs.declared.config.GuideKind.TheVariants.{Add, Ff, Lm}
 use Rattle.conf_text.specs.declared.config.Phase.{Phase}
+use Rattle.sas_task.specs.Costs.{is_normal}
 
 -- members of a list, each behind a comma
 abbrev pub behind_commas : {A : Type 0} → (A → List ℕ) → List A → List ℕ
@@ -30,10 +31,6 @@ abbrev pub kind_text : CostKind → List ℕ
 kind_text Normal = codes "normal"
 kind_text One = codes "one"
 kind_text PlusOne = codes "plusone"
-
-abbrev pub is_normal : CostKind → Bool
-is_normal Normal = true
-is_normal _ = false
 
 abbrev pub truth_text : Bool → List ℕ
 truth_text true = codes "true"

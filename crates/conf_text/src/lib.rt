@@ -6,8 +6,10 @@
 //! is read back as the same configuration.
 #![tactic(auto)]
 
+mod alias_names;
 mod aliases;
 mod config;
+mod copies;
 mod faults;
 mod guides;
 mod options;
@@ -17,6 +19,7 @@ mod tokens;
 mod values;
 mod writing;
 
+pub use alias_names::AliasName;
 pub use aliases::alias;
 pub use config::{Config, GuideKind, Phase};
 pub use faults::{ConfBad, ConfError, ConfKind};

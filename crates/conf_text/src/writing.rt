@@ -4,7 +4,8 @@ ghost use Rattle.std.specs.Prelude.{is_some, length, nat_eq, string_bytes, unwra
 ghost use Rattle.conf_text.specs.Accepted.{IsConfig};
 ghost use Rattle.conf_text.specs.Grammar.{config_of, usual_boost, greatest_pops, greatest_states};
 ghost use Rattle.conf_text.specs.Written.{guide_text, guides_text, kind_text as the_kind};
-ghost use Rattle.conf_text.specs.Written.{truth_text as the_truth, same_truth, is_normal};
+ghost use Rattle.conf_text.specs.Written.{truth_text as the_truth, same_truth};
+ghost use Rattle.sas_task.specs.Costs.{is_normal};
 ghost use Rattle.conf_text.specs.Written.{option_text, kind_option, number_option, options_text};
 ghost use Rattle.conf_text.specs.Written.{search_text, phase_text, phases_text, repeat_text};
 ghost use Rattle.conf_text.specs.Written.{behind_commas, config_text};

@@ -10,7 +10,8 @@ use Rattle.driver_core.specs.declared.events.Event.{Event}
 use Rattle.driver_core.specs.declared.settings.Setting.{Setting}
 use Rattle.driver_core.specs.Pasts.{filter_after}
 use Rattle.driver_core.specs.Settings.{most_plans}
-use Rattle.driver_core.specs.Keeping.{plan_costs, is_below, improves, improvements, kept_costs, bound_of}
+use Rattle.driver_core.specs.Keeping.{plan_costs, improves, improvements, kept_costs, bound_of}
+use Rattle.lama_num.specs.Bounds.{is_below}
 
 and_assoc : (a b c : Bool) → (a && (b && c)) ≡ ((a && b) && c)
 and_assoc true b c = refl

@@ -21,7 +21,8 @@ use Rattle.driver_core.specs.declared.events.Action.TheVariants.{Go, Keep, Drop}
 use Rattle.driver_core.specs.declared.settings.Setting.{Setting}
 use Rattle.driver_core.specs.Settings.{most_plans, entries}
 use Rattle.driver_core.specs.Turns.{Turn, turn_of, is_beginning_of, is_end_of, has_begun, has_ended, IsOn}
-use Rattle.driver_core.specs.Keeping.{cost_in, plan_costs, is_below, improves, kept_costs, is_kept, bound_of}
+use Rattle.driver_core.specs.Keeping.{cost_in, plan_costs, improves, kept_costs, is_kept, bound_of}
+use Rattle.lama_num.specs.Bounds.{is_below}
 use Rattle.driver_core.specs.Rounds.{keeps_for, has_kept, runs_in, has_entries, is_ended}
 use Rattle.driver_core.specs.Running.{is_out_of_time, is_last_end, is_over_after, stop_or, is_stop, action_of, actions_of, has_stopped}
 use Rattle.driver_core.specs.Legal.{IsAllowed, IsLegal}

@@ -5,7 +5,8 @@ use Rattle.std.specs.List.{list_any}
 use Rattle.driver_core.specs.declared.events.Event.{Event}
 use Rattle.driver_core.specs.declared.settings.Setting.{Setting}
 use Rattle.driver_core.specs.Settings.{most_plans}
-use Rattle.driver_core.specs.Keeping.{kept_costs, is_kept, is_below, bound_of}
+use Rattle.driver_core.specs.Keeping.{kept_costs, is_kept, bound_of}
+use Rattle.lama_num.specs.Bounds.{is_below}
 use Rattle.driver_core.specs.Rounds.{has_last_round}
 use Rattle.driver_core.specs.Running.{is_over_after, is_out_of_time, is_last_end, has_stopped}
 use Rattle.driver_core.specs.States.{CoreState}

@@ -6,6 +6,7 @@ use Rattle.driver_core.specs.declared.events.Event.TheVariants.{Began, Candidate
 use Rattle.driver_core.specs.declared.settings.Setting.{Setting}
 use Rattle.driver_core.specs.Pasts.{filter_after}
 use Rattle.driver_core.specs.Settings.{most_plans}
+use Rattle.lama_num.specs.Bounds.{is_below}
 
 -- the cost of a candidate that is a plan
 abbrev pub cost_in : Event → Option ℕ
@@ -17,10 +18,6 @@ cost_in (OutOfTime moment) = None
 -- the costs of the candidates that are plans
 abbrev pub plan_costs : List Event → List ℕ
 plan_costs events = filter_map cost_in events
-
-abbrev pub is_below : Option ℕ → ℕ → Bool
-is_below None cost = true
-is_below (Some bound) cost = nat_lt cost bound
 
 -- whether a plan costs less than the bound and less than each earlier plan
 abbrev pub improves : Option ℕ → List ℕ → ℕ → Bool

@@ -12,7 +12,7 @@ use Rattle.driver_core.specs.declared.events.Action.{Action}
 use Rattle.driver_core.specs.declared.events.Action.TheVariants.{Go, Keep, Drop, Stop}
 use Rattle.driver_core.specs.declared.settings.Setting.{Setting}
 use Rattle.driver_core.specs.Settings.{most_plans}
-use Rattle.driver_core.specs.Keeping.{is_below}
+use Rattle.lama_num.specs.Bounds.{is_below}
 use Rattle.driver_core.specs.Running.{stop_or}
 
 pub record CoreState : Type 0 where

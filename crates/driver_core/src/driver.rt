@@ -65,7 +65,8 @@ impl Model for Core {
 impl Core {
     ghost use Rattle.driver_core.specs.Legal.{IsAllowed};
     ghost use Rattle.driver_core.specs.Running.{action_of, is_over_after, stop_or, has_stopped};
-    ghost use Rattle.driver_core.specs.Keeping.{bound_of, kept_costs, is_kept, is_below};
+    ghost use Rattle.driver_core.specs.Keeping.{bound_of, kept_costs, is_kept};
+    ghost use Rattle.lama_num.specs.Bounds.{is_below};
     ghost use Rattle.driver_core.specs.Ends.{code_of};
     ghost use Rattle.driver_core.specs.Standing.{StandsFor};
     ghost use Rattle.driver_core.specs.States.{is_done, is_at_end, accepts, all_codes};
@@ -212,7 +213,7 @@ impl Core {
         ensures answer { result ≡ accepts self.now cost }
         ensures few { result ≡ true → self.now.kept < 9999 }
     {
-        self.bound.is_none_or(|bound| cost < bound) && self.kept < self.most()
+        is_below(self.bound, cost) && self.kept < self.most()
     }
 
     /// How many plans the run keeps.

@@ -8,7 +8,8 @@ use Rattle.sas_task.specs.declared.plans.Kept.{Kept}
 use Rattle.candidates.specs.Collecting.{IsInTurn, KeepsBelow}
 use Rattle.conf_text.specs.declared.config.Config.{Config}
 use Rattle.conf_text.specs.Accepted.{IsConfig}
-use Rattle.driver_core.specs.Keeping.{bound_of, is_below}
+use Rattle.driver_core.specs.Keeping.{bound_of}
+use Rattle.lama_num.specs.Bounds.{is_below}
 use Rattle.phase_ends.specs.Ends.{begun, place_after_plan}
 use Rattle.search_log.specs.Logs.{Content}
 use Rattle.iterated.specs.declared.ends.PhaseEnd.{PhaseEnd}

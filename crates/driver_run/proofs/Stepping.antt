@@ -15,14 +15,16 @@ use Rattle.conf_text.specs.declared.config.Phase.{Phase}
 use Rattle.conf_text.specs.Accepted.{IsConfig, IsPhase}
 use Rattle.driver_core.specs.declared.events.Event.{Event}
 use Rattle.driver_core.specs.declared.settings.Setting.{Setting}
-use Rattle.driver_core.specs.Keeping.{kept_costs, bound_of, is_below}
+use Rattle.driver_core.specs.Keeping.{kept_costs, bound_of}
+use Rattle.lama_num.specs.Bounds.{is_below}
 use Rattle.phase_ends.specs.declared.ends.Begun.TheVariants as begins
 use Rattle.phase_ends.specs.Ends.{begun}
 use Rattle.search_log.specs.declared.turns.Pop.{Pop}
 use Rattle.search_log.specs.Logs.{Content, Visit}
 use Rattle.search_log.specs.Lawful.{Lawful}
 use Rattle.search_log.proofs.LogLaws.{lawful_numbers, pops_in}
-use Rattle.search_log.specs.Phases.{Phase as SearchPhase, is_below as is_under}
+use Rattle.search_log.specs.Phases.{Phase as SearchPhase}
+use Rattle.lama_num.specs.Bounds.{is_below as is_under}
 use Rattle.iterated.specs.declared.ends.PhaseEnd.{PhaseEnd}
 use Rattle.iterated.specs.declared.ends.PhaseEnd.TheVariants.{Plan, Unsolvable, Best, Unsolved, Limit, Over, NoMemory}
 use Rattle.iterated.specs.Ends.{EndsFrom, PhaseEnds, no_log}

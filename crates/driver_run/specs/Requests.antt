@@ -8,7 +8,7 @@ use Rattle.conf_text.specs.declared.faults.ConfBad.{ConfBad}
 use Rattle.conf_text.specs.Accepted.{IsConfig}
 use Rattle.conf_text.specs.AliasConfigs.{lama, lama_first}
 use Rattle.conf_text.specs.Grammar.{config_of}
-use Rattle.portfolio_text.specs.declared.aliases.AliasName.TheVariants.{Lama, LamaFirst}
+use Rattle.conf_text.specs.declared.alias_names.AliasName.TheVariants.{Lama, LamaFirst}
 use Rattle.run_report.specs.declared.report.Why.{Why}
 use Rattle.run_report.specs.declared.report.Why.TheVariants as why
 use Rattle.run_report.specs.declared.report.WordsFault.{WordsFault}

@@ -9,7 +9,8 @@ use Rattle.conf_text.specs.declared.config.Config.{Config}
 use Rattle.conf_text.specs.Accepted.{IsConfig}
 use Rattle.driver_core.specs.declared.settings.Setting.{Setting}
 use Rattle.driver_core.specs.declared.events.Event.{Event}
-use Rattle.driver_core.specs.Keeping.{bound_of, is_below}
+use Rattle.driver_core.specs.Keeping.{bound_of}
+use Rattle.lama_num.specs.Bounds.{is_below}
 use Rattle.driver_core.specs.Standing.{StandsFor}
 use Rattle.driver_core.specs.States.{CoreState}
 use Rattle.driver_core.specs.Turns.{turn_of, begins_at, offers}

@@ -5,8 +5,8 @@ use Rattle.std.specs.List.{list_all}
 use Rattle.std.specs.Str.{bytes_eq}
 use Rattle.lama_num.specs.Decimals.{decimal_of}
 use Rattle.lama_num.specs.Gives.{◌>>=◌}
-use Rattle.portfolio_text.specs.declared.aliases.AliasName.{AliasName}
-use Rattle.portfolio_text.specs.AliasNames.{alias_of}
+use Rattle.conf_text.specs.declared.alias_names.AliasName.{AliasName}
+use Rattle.conf_text.specs.AliasNames.{alias_of}
 use Rattle.run_report.specs.declared.report.Opt.TheVariants.{Bound}
 use Rattle.run_report.specs.declared.report.WordsFault.{WordsFault}
 use Rattle.run_report.specs.declared.report.WordsFault.TheVariants.{Refused, BadValue, UnknownAlias, NameClash}

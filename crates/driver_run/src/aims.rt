@@ -9,7 +9,7 @@ ghost use Rattle.driver_run.specs.Requests.{chosen_of, config_for, is_many as ma
 use crate::words::Work;
 use conf_text::{ConfError, Config, alias, read};
 use lama_num::NoMemory;
-use portfolio_text::AliasName;
+use conf_text::AliasName;
 use std::alloc::Global;
 
 /// A configuration, or one that is built in, which depends on the task.

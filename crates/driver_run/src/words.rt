@@ -16,7 +16,7 @@ ghost use Rattle.driver_run.specs.Words.{is_own_name as own_test};
 
 use itoa::Buffer;
 use lama_num::read_decimal;
-use portfolio_text::AliasName;
+use conf_text::AliasName;
 use run_report::{Opt, WordsFault};
 
 /// The base of the plan files.

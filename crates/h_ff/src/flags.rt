@@ -15,15 +15,3 @@ pub fn flag_all(flags: &mut [bool], facts: &[u32])
         flags[*fact as usize] = true;
     }
 }
-
-/// Adds to a list that has room.
-pub fn push_in(list: &mut Vec<u32>, item: u32)
-    requires { vec_len list.old < vec_capacity list.old }
-    ensures items { list.new.items ≡ list.old.items ++ item ∷ [] }
-    ensures room { vec_capacity list.old ≤ vec_capacity list.new }
-{
-    match list.push(item) {
-        Ok(()) => {}
-        Err(_) => unreachable!(),
-    }
-}

@@ -8,7 +8,7 @@ ghost use Rattle.h_add.specs.Orders.{chosen, are_places};
 ghost use Rattle.h_ff.specs.Orders.{IsPlanned, ops_of};
 ghost use Rattle.h_ff.specs.RelaxedPlans.{AreEachOnce};
 
-use crate::flags::{flag_all, push_in};
+use crate::flags::flag_all;
 use relaxed_task::{Relaxed, Unary};
 
 /// Keeps the last of an order that was not looked at, if what it gives is marked.
@@ -24,7 +24,7 @@ fn keep_last(unary: &Unary, marks: &mut [bool], operators: &mut Vec<u32>)
     if marks[unary.gives as usize] {
         flag_all(marks, &unary.conds);
         if let Some(op) = unary.op {
-            push_in(operators, op);
+            operators.push_reserved(op);
         }
     }
 }

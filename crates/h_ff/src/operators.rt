@@ -3,7 +3,6 @@ ghost use Rattle.std.specs.Prelude.{◌≡◌, ◌≤◌, [], filter, length, ve
 ghost use Rattle.state_step.specs.Steps.{is_applicable as applicable};
 ghost use Rattle.h_ff.specs.RelaxedPlans.{cost_of};
 
-use crate::flags::push_in;
 use sas_task::{CostKind, Task, all_hold};
 
 /// What operators cost together, at most 1,000,000,000.
@@ -41,7 +40,7 @@ pub fn prefer(task: &Task, state: &[u32], ops: &[u32], preferred: &mut Vec<u32>)
 {
     for op in ops {
         if is_applicable(task, state, *op) {
-            push_in(preferred, *op);
+            preferred.push_reserved(*op);
         }
     }
 }

@@ -11,12 +11,14 @@ use Rattle.conf_text.specs.declared.config.Phase.{Phase}
 use Rattle.phase_ends.specs.declared.ends.Searched.{Searched}
 use Rattle.phase_ends.specs.declared.ends.Ending.{Ending}
 use Rattle.phase_ends.specs.declared.ends.Ending.TheVariants as ending
-use Rattle.phase_ends.specs.Ends.{exhausted_end, phase_end, place_after, is_exact_at, is_exact as is_exact_phase, is_normal as is_normal_cost}
+use Rattle.phase_ends.specs.Ends.{exhausted_end, phase_end, place_after, is_exact_at, is_exact as is_exact_phase}
+use Rattle.sas_task.specs.Costs.{is_normal as is_normal_cost}
 use Rattle.search_log.specs.declared.setting.Stop.{Stop}
 use Rattle.search_log.specs.Logs.{Content}
 use Rattle.search_log.specs.Members.{Member}
 use Rattle.search_log.proofs.SpaceLaws.{no_plan, no_cheaper_plan}
-use Rattle.search_log.specs.Spaces.{IsExhausted, is_exact, is_normal}
+use Rattle.search_log.specs.Spaces.{IsExhausted, is_exact}
+use Rattle.sas_task.specs.Costs.{is_normal}
 use Rattle.lazy_search.specs.declared.end.SearchEnd.{SearchEnd}
 use Rattle.lazy_search.specs.declared.end.SearchEnd.TheVariants as search
 use Rattle.iterated.specs.declared.ends.PhaseEnd.{PhaseEnd}

@@ -3,7 +3,6 @@
 //! `specs/Ends` says how each of them ends, and `specs/Searches` what it asks of its search.
 #![tactic(auto)]
 
-mod copies;
 mod ends;
 mod phases;
 mod searches;

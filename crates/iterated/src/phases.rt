@@ -8,12 +8,11 @@ ghost use Rattle.lazy_search.specs.Ends.{IsBetween, TellsOn, moment_by};
 ghost use Rattle.iterated.specs.Ends.{PhaseEnds, EndsFrom, AsksFrom, ShowsOfPlans, next_from};
 ghost use Rattle.iterated.specs.Ends.{search_end};
 
-use crate::copies::copy;
 use crate::ends::{PhaseEnd, searched_of};
 use crate::searches::search_by;
 use conf_text::Config;
 use lama_host::Clock;
-use lama_num::NoMemory;
+use lama_num::{Duplicate, NoMemory};
 use phase_ends::{Begun, begin, end_of, next_after};
 use phase_guide::{PhaseGuide, guide};
 use sas_task::Task;
@@ -87,7 +86,7 @@ impl Iterated {
         ensures next { IfOk result (λ phases. phases.next ≡ Some 0) }
         ensures task { IfOk result (λ phases. IsFor phases task.now) }
     {
-        let config_of_phases = copy(alloc, config)?;
+        let config_of_phases = config.duplicate(alloc)?;
         let guide = guide(alloc, task, &config.phases[0])?;
         Ok(Iterated {
             config: config_of_phases,

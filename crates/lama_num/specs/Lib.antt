@@ -3,3 +3,4 @@ pub mod Estimates
 pub mod Gives
 pub mod Names
 pub mod Rows
+pub mod Bounds

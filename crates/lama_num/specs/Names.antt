@@ -1,6 +1,7 @@
 -- Names of plan files.
 use Rattle.std.specs.Prelude.{◌≡◌, ℕ, ◌<◌, ◌≤◌, ◌^◌, ◌++◌, List, length, codes, decimal, Bool, ◌&&◌, Option, Some, None, nat_eq, nat_lt, nat_le, not, if◌then◌else◌}
 use Rattle.std.specs.List.{list_all}
+use Rattle.lama_num.specs.declared.names.TheConstants.{MOST_PLANS}
 
 -- a base is neither empty nor longer than 200 bytes, and has no NUL byte
 abbrev pub is_base : List ℕ → Bool
@@ -25,7 +26,7 @@ child_name base entry = base ++ codes ".c" ++ decimal entry
 -- numbers of plans and of portfolio entries
 pub record IsPlanNumber (n : ℕ) : Type 0 where
   pub low : 1 ≤ n
-  pub high : n ≤ 9999
+  pub high : n ≤ MOST_PLANS
 
 pub record IsEntryNumber (entry : ℕ) : Type 0 where
   pub low : 1 ≤ entry

@@ -4,10 +4,14 @@ ghost use Rattle.std.specs.List.{list_all};
 ghost use Rattle.lama_num.specs.Names.{is_base, base_of, IsPlanNumber, IsEntryNumber, NamesOnly};
 ghost use Rattle.lama_num.specs.Names.{Part, Numbered, ChildSingle, numbered_name, part_name};
 ghost use Rattle.lama_num.specs.Names.{child_name};
+ghost use Rattle.lama_num.specs.declared.names.TheConstants.{MOST_PLANS};
 
 use arrayvec::ArrayString;
 use itoa::Buffer;
 use std::marker::Model;
+
+/// The highest number of a plan, and so the most plans that a run keeps.
+pub const MOST_PLANS: u32 = 9_999;
 
 /// The name of a plan file, kept without memory.
 ///
@@ -101,7 +105,7 @@ impl NameBuf {
     fn with_number(&self, between: &str, number: u32) -> NameBuf
         requires short { length self.now ≤ 230 }
         requires between { length between.now ≤ 2 }
-        requires number { number ≤ 9999 }
+        requires number { number ≤ MOST_PLANS }
         ensures name { result ≡ self.now ++ between.now ++ decimal number }
         ensures len { length result ≤ length self.now + length between.now + 4 }
     {

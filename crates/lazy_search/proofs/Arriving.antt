@@ -9,7 +9,8 @@ use Rattle.state_registry.specs.Registries.{Visited as Visits}
 use Rattle.state_registry.specs.Interning.{Interns}
 use Rattle.state_registry.specs.declared.interned.Interned.{Interned}
 use Rattle.state_registry.specs.declared.interned.Interned.TheVariants as found
-use Rattle.search_log.specs.Phases.{Phase, IsPhase, is_below}
+use Rattle.search_log.specs.Phases.{Phase, IsPhase}
+use Rattle.lama_num.specs.Bounds.{is_below}
 use Rattle.search_log.specs.Places.{Past, latest}
 use Rattle.search_log.proofs.TurnLaws.{result_over}
 use Rattle.lazy_search.specs.declared.rows.Row.{Row}

@@ -9,7 +9,8 @@ use Rattle.sas_task.proofs.RunLaws.{step-state, is_some-step}
 use Rattle.packed_state.specs.Packing.{Places, packed}
 use Rattle.state_registry.specs.Interning.{IsAbsent}
 use Rattle.search_log.specs.declared.turns.PopResult.TheVariants.{Known, Full}
-use Rattle.search_log.specs.Phases.{Phase, IsPhase, is_below}
+use Rattle.search_log.specs.Phases.{Phase, IsPhase}
+use Rattle.lama_num.specs.Bounds.{is_below}
 use Rattle.search_log.specs.Places.{Place, Node, Past, latest, put_latest, id_of}
 use Rattle.search_log.specs.Lawful.{result_of, is_reopened}
 use Rattle.search_log.proofs.Sound.{Sound}

@@ -12,7 +12,8 @@ use Rattle.open_lists.specs.declared.list.OpenList.{OpenList}
 use Rattle.open_lists.specs.Lists.{Holds, entries_in_list, list_count}
 use Rattle.search_log.specs.Logs.{Visit}
 use Rattle.search_log.specs.Members.{Member}
-use Rattle.search_log.specs.Phases.{Phase, IsPhase, lists_of, is_below}
+use Rattle.search_log.specs.Phases.{Phase, IsPhase, lists_of}
+use Rattle.lama_num.specs.Bounds.{is_below}
 use Rattle.search_log.specs.Places.{Node, Past, latest, put_latest}
 use Rattle.search_log.specs.Pending.{pending}
 use Rattle.search_log.specs.Lawful.{GoesOn}

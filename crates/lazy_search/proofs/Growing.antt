@@ -12,7 +12,8 @@ use Rattle.open_lists.specs.Lists.{Holds, SameShape, is_preferred, boost_of, cou
 use Rattle.guide.specs.Operators.{applicable_operators, is_among}
 use Rattle.search_log.specs.declared.setting.Setting.{Setting}
 use Rattle.search_log.specs.declared.turns.Pop.{Pop}
-use Rattle.search_log.specs.Phases.{Phase, lists_of, is_for_preferred, is_below}
+use Rattle.search_log.specs.Phases.{Phase, lists_of, is_for_preferred}
+use Rattle.lama_num.specs.Bounds.{is_below}
 use Rattle.search_log.specs.Places.{Node, put_latest, is_expanded, estimate}
 use Rattle.search_log.specs.Pending.{pending, puts_of, is_put, item_for}
 use Rattle.search_log.proofs.Elements.{filter-same, slice_get-push_other, slice_get-push_below}

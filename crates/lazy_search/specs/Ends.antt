@@ -7,7 +7,8 @@ use Rattle.search_log.specs.declared.setting.Setting.{Setting}
 use Rattle.search_log.specs.declared.turns.Pop.{Pop}
 use Rattle.search_log.specs.Logs.{Content}
 use Rattle.search_log.specs.Members.{Member}
-use Rattle.search_log.specs.Phases.{Phase, is_below}
+use Rattle.search_log.specs.Phases.{Phase}
+use Rattle.lama_num.specs.Bounds.{is_below}
 use Rattle.search_log.specs.Places.{Node, Past, past_of}
 use Rattle.search_log.specs.Lawful.{Lawful}
 use Rattle.search_log.specs.Ends.{EndsInGoal, EndsExhausted, EndsAtLimit}

@@ -8,7 +8,7 @@ use Rattle.open_lists.specs.Items.{Item, items_of_visit}
 use Rattle.open_lists.specs.Lists.{Holds, counter, is_preferred, boost_of, SameShape}
 use Rattle.guide.specs.declared.seen.Seen.{Seen}
 use Rattle.search_log.specs.declared.setting.Setting.{Setting}
-use Rattle.search_log.specs.Phases.{is_below}
+use Rattle.lama_num.specs.Bounds.{is_below}
 use Rattle.search_log.specs.Pending.{key_by}
 use Rattle.lazy_search.specs.declared.rows.Row.{Row}
 use Rattle.lazy_search.specs.declared.shape.Shape.{Shape}

@@ -4,12 +4,13 @@ ghost use Rattle.std.specs.Prelude.{slice_index, OnOk, pos, negsuc, ◌+ℤ◌, 
 ghost use Rattle.std.specs.Option.{ForSome};
 ghost use Rattle.sas_task.specs.Runs.{cost_at};
 ghost use Rattle.open_lists.specs.Lists.{list_count, is_preferred, counter, boost_of};
-ghost use Rattle.search_log.specs.Phases.{is_below};
+ghost use Rattle.lama_num.specs.Bounds.{is_below};
 ghost use Rattle.search_log.specs.Pending.{key_by};
 ghost use Rattle.lazy_search.specs.Shapes.{lists_by};
 ghost use Rattle.lazy_search.specs.Entries.{puts_in, Puts, Expands, operators_below, is_less};
 
-use crate::rows::{Row, stays_below};
+use crate::rows::Row;
+use lama_num::is_below;
 use crate::shape::Shape;
 use guide::Seen;
 use lama_num::NoMemory;
@@ -43,7 +44,7 @@ fn leads_below(task: &Task, bound: Option<u64>, real: u64, op: u32) -> bool
     ensures { result ≡ is_below bound (real + cost_at task.now op) }
 {
     let cost = task.adjusted_cost(op, CostKind::Normal);
-    stays_below(bound, real + u64::from(cost))
+    is_below(bound, real + u64::from(cost))
 }
 
 /// Keeps those operators by which the cost stays below the bound.

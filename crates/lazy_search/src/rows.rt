@@ -1,6 +1,6 @@
 // What is known of each state, by its number.
 ghost use Rattle.std.specs.Prelude.{◌≡◌, ◌≤◌, ◌&&◌, not, nat_lt, vec_len, OnOk};
-ghost use Rattle.search_log.specs.Phases.{is_below};
+ghost use Rattle.lama_num.specs.Bounds.{is_below};
 ghost use Rattle.lazy_search.specs.Rows.{row_put};
 
 use lama_num::NoMemory;
@@ -29,16 +29,6 @@ pub(crate) fn put_row(rows: &mut Vec<Row>, id: u32, row: Row) -> Result<(), NoMe
     }
     rows.push(row)?;
     Ok(())
-}
-
-/// Whether a cost is below the bound, if there is one.
-pub(crate) fn stays_below(bound: Option<u64>, cost: u64) -> bool
-    ensures { result ≡ is_below bound cost }
-{
-    match bound {
-        None => true,
-        Some(bound) => cost < bound,
-    }
 }
 
 /// Whether a known state is visited again.

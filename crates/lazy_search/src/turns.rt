@@ -7,7 +7,8 @@ use crate::entries::{Chosen, are_short, expand};
 use crate::machine::{Decision, Machine, Reached, Turned};
 use crate::outcomes::{outcome_of, pop_by, turned_by};
 use crate::paths::Came;
-use crate::rows::{Row, put_row, reopens, stays_below};
+use crate::rows::{Row, put_row, reopens};
+use lama_num::is_below;
 use crate::shape::Shape;
 use crate::states::States;
 use guide::{Guide, Seen};
@@ -91,7 +92,7 @@ impl Machine {
         ensures log { self.new.log ≡ self.old.log }
     {
         let _guides = shape.guides;
-        if !stays_below(setting.bound, reached.real) {
+        if !is_below(setting.bound, reached.real) {
             return Ok(Decision::Known);
         }
         self.states

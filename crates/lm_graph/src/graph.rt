@@ -61,17 +61,6 @@ fn join_goal(nodes: &mut Vec<Node>, place: usize, goal: bool)
     }
 }
 
-// Adds to a list that has room.
-fn push_in<T: Drop>(list: &mut Vec<T>, item: T)
-    requires { vec_len list.old < vec_capacity list.old }
-    ensures { list.new.items ≡ list.old.items ++ item ∷ [] }
-{
-    match list.push(item) {
-        Ok(()) => {}
-        Err(_) => unreachable!(),
-    }
-}
-
 // Adds a node at the end, its facts to the table, and a row without an order.
 fn push_node(
     nodes: &mut Vec<Node>,
@@ -92,8 +81,8 @@ fn push_node(
     nodes.reserve(1)?;
     rows.reserve(1)?;
     sets.insert(facts)?;
-    push_in(nodes, node);
-    push_in(rows, Row::new(alloc));
+    nodes.push_reserved(node);
+    rows.push_reserved(Row::new(alloc));
     Ok(())
 }
 

@@ -93,18 +93,6 @@ fn lacks_some(row: &[u64], nodes: &[u32]) -> bool
     nodes.iter().any(|node| !has(row, *node as usize))
 }
 
-/// Adds to a list that has room.
-fn push_in(list: &mut Vec<u32>, item: u32)
-    requires { vec_len list.old < vec_capacity list.old }
-    ensures items { list.new.items ≡ list.old.items ++ item ∷ [] }
-    ensures room { vec_capacity list.old ≤ vec_capacity list.new }
-{
-    match list.push(item) {
-        Ok(()) => {}
-        Err(_) => unreachable!(),
-    }
-}
-
 impl Status {
     /// The status of a graph of landmarks of a task, whose nodes weigh the least cost of an
     /// operator that gives one of their facts, by a kind of cost. A node that no operator gives
@@ -342,7 +330,7 @@ impl Status {
         out.clear();
         for op in applicable {
             if self.leads_on(task, row, state, *op) {
-                push_in(out, *op);
+                out.push_reserved(*op);
             }
         }
     }

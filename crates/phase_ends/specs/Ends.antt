@@ -10,11 +10,7 @@ use Rattle.phase_ends.specs.declared.ends.Ending.{Ending}
 use Rattle.phase_ends.specs.declared.ends.Begun.TheVariants as beginnings
 use Rattle.phase_ends.specs.declared.ends.Searched.TheVariants.{Found, Exhausted, Limited, Short}
 use Rattle.phase_ends.specs.declared.ends.Ending.TheVariants.{Plan, Unsolvable, Best, Unsolved, Limit, NoMemory}
-
-abbrev pub is_normal : CostKind → Bool
-is_normal Normal = true
-is_normal One = false
-is_normal PlusOne = false
+use Rattle.sas_task.specs.Costs.{is_normal}
 
 -- An exhausted space of the phase shows that no plan is cheaper than the bound: it goes back to states that are reached at less cost, and
 -- counts costs as they are.

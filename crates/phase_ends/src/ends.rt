@@ -3,7 +3,7 @@ ghost use Rattle.std.specs.Prelude.{◌≡◌, ◌<◌, length};
 ghost use Rattle.phase_ends.specs.Ends.{begun, phase_end, exhausted_end, place_after};
 ghost use Rattle.phase_ends.specs.Ends.{place_after_plan, place_next};
 ghost use Rattle.phase_ends.specs.Ends.{is_exact as exact, is_exact_at as exact_at};
-ghost use Rattle.phase_ends.specs.Ends.{is_normal as normal};
+ghost use Rattle.sas_task.specs.Costs.{is_normal as normal};
 
 use conf_text::{Config, Phase};
 use sas_task::CostKind;

@@ -1,12 +1,10 @@
 // The guides of a phase, and their estimates.
-ghost use Rattle.std.specs.Prelude.{◌≡◌, ◌∷◌, [], ◌||◌, map, slice_index, IsTrue, IfOk};
+ghost use Rattle.std.specs.Prelude.{◌≡◌, ◌∷◌, [], ◌||◌, map, slice_index, IsTrue};
 ghost use Rattle.conf_text.specs.Grammar.{has_guide, same_guide};
 ghost use Rattle.phase_guide.specs.Kinds.{is_relaxing as relaxing_test, three_of, value_of};
 
 use conf_text::{GuideKind, Phase};
-use lama_num::Seq;
 use sas_task::CostKind;
-use std::alloc::{AllocError, Global};
 
 /// The estimates of a state that isn't dead.
 #[derive(Clone, Copy)]
@@ -49,25 +47,6 @@ pub(crate) fn is_same_cost(a: CostKind, b: CostKind) -> bool
         (CostKind::PlusOne, CostKind::PlusOne) => true,
         _ => false,
     }
-}
-
-/// A copy of a phase.
-pub(crate) fn copy(alloc: Global, phase: &Phase) -> Result<Phase, AllocError>
-    ensures { IfOk result (λ copy. copy ≡ phase.now) }
-{
-    let guides = Vec::from_slice(alloc, &phase.guides)?;
-    let preferred = Vec::from_slice(alloc, &phase.preferred)?;
-    Ok(Phase {
-        guides: Seq::from(guides),
-        preferred: Seq::from(preferred),
-        cost: phase.cost,
-        estimate: phase.estimate,
-        weight: phase.weight,
-        reopen: phase.reopen,
-        boost: phase.boost,
-        most_pops: phase.most_pops,
-        most_states: phase.most_states,
-    })
 }
 
 fn value(kind: GuideKind, values: Values) -> u32

@@ -8,12 +8,12 @@ ghost use Rattle.phase_guide.specs.Landmarks.{IsLandmarkGraph, AreLandmarksFor};
 ghost use Rattle.phase_guide.specs.Relaxings.{IsRelaxingFor, Serves};
 
 use crate::guiding::PhaseGuide;
-use crate::kinds::{copy, has, is_same_cost};
+use crate::kinds::{has, is_same_cost};
 use crate::relaxing::Relaxing;
 use conf_text::{GuideKind, Phase};
 use h_add::Add;
 use h_ff::Ff;
-use lama_num::NoMemory;
+use lama_num::{Duplicate, NoMemory};
 use lm_backchain::landmarks;
 use lm_graph::Graph;
 use lm_orders::add_reasonable;
@@ -116,7 +116,7 @@ pub fn guide(alloc: Global, task: &Task, phase: &Phase) -> Result<PhaseGuide, No
     ensures task { IfOk result (λ guide. IsFor guide task.now) }
     ensures rows { IfOk result (λ guide. guide.tracks.rows ≡ []) }
 {
-    let phase_of_guide = copy(alloc, phase)?;
+    let phase_of_guide = phase.duplicate(alloc)?;
     let relaxing = new_relaxing(alloc, task, phase)?;
     match tracks_for(alloc, task, phase) {
         Ok(tracks) => Ok(PhaseGuide {
@@ -143,7 +143,7 @@ impl PhaseGuide {
         ensures task { OnOk result (IsFor self.new task.now) }
         ensures rows { OnOk result (self.new.tracks.rows ≡ []) }
     {
-        let phase_of_guide = copy(alloc, phase)?;
+        let phase_of_guide = phase.duplicate(alloc)?;
         renew_relaxing(alloc, task, phase, &self.phase, &mut self.relaxing)?;
         renew_tracks(alloc, task, phase, &self.phase, &mut self.tracks)?;
         self.phase = phase_of_guide;

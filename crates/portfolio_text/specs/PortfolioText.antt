@@ -8,8 +8,8 @@ use Rattle.text_lines.specs.Lines.{Place, is_blank, lines_of, words_of}
 use Rattle.conf_text.specs.Grammar.{config_of}
 use Rattle.conf_text.specs.declared.config.Config.{Config}
 use Rattle.conf_text.specs.declared.faults.ConfBad.{ConfBad}
-use Rattle.portfolio_text.specs.AliasNames.{alias_of}
-use Rattle.portfolio_text.specs.declared.aliases.AliasName.{AliasName}
+use Rattle.conf_text.specs.AliasNames.{alias_of}
+use Rattle.conf_text.specs.declared.alias_names.AliasName.{AliasName}
 use Rattle.portfolio_text.specs.declared.faults.PortBad.{PortBad}
 use Rattle.portfolio_text.specs.declared.faults.PortError.{PortError}
 use Rattle.portfolio_text.specs.declared.faults.PortError.TheVariants.{Bad, NoMemory}

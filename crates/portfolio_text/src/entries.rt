@@ -5,12 +5,12 @@ ghost use Rattle.lama_num.specs.Gives.{Gives};
 ghost use Rattle.text_lines.specs.Lines.{words_of};
 ghost use Rattle.conf_text.specs.Grammar.{config_of};
 ghost use Rattle.portfolio_text.specs.Accepted.{IsWork, IsEntry};
-ghost use Rattle.portfolio_text.specs.AliasNames.{alias_of};
+ghost use Rattle.conf_text.specs.AliasNames.{alias_of};
 ghost use Rattle.portfolio_text.specs.PortfolioText.{bad as bad_line, refusal, share_by};
 ghost use Rattle.portfolio_text.specs.PortfolioText.{search_by, alias_by, run_by, work_by};
 ghost use Rattle.portfolio_text.specs.PortfolioText.{entry_by, entry_of};
 
-use crate::aliases::AliasName;
+use conf_text::AliasName;
 use crate::faults::{PortBad, PortError, PortKind};
 use crate::lines::{behind_word, first_word, without_blanks};
 use crate::portfolio::{HIGHEST_SHARE, PortEntry, Work};

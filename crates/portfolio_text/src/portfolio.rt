@@ -1,5 +1,5 @@
 // What a portfolio is.
-use crate::aliases::AliasName;
+use conf_text::AliasName;
 use crate::texts::Text;
 use conf_text::Config;
 use lama_num::Seq;

@@ -11,7 +11,8 @@ use Rattle.candidates.specs.Collecting.{IsInTurn}
 use Rattle.driver_core.specs.declared.events.Event.{Event}
 use Rattle.driver_core.specs.declared.settings.Setting.{Setting}
 use Rattle.driver_core.specs.Settings.{entries}
-use Rattle.driver_core.specs.Keeping.{kept_costs, is_below, bound_of}
+use Rattle.driver_core.specs.Keeping.{kept_costs, bound_of}
+use Rattle.lama_num.specs.Bounds.{is_below}
 use Rattle.driver_core.specs.Standing.{StandsFor}
 use Rattle.driver_core.specs.States.{CoreState}
 use Rattle.driver_core.specs.Turns.{Turn, turn_of, begins_at, offers}

@@ -4,7 +4,7 @@ use Rattle.std.specs.List.{last_or}
 use Rattle.std.proofs.lemmas.List.Elements.{All-push}
 use Rattle.sas_task.specs.declared.contents.Parts.{Parts}
 use Rattle.sas_task.specs.declared.plans.Kept.{Kept}
-use Rattle.driver_core.specs.Keeping.{is_below}
+use Rattle.lama_num.specs.Bounds.{is_below}
 use Rattle.sas_task.specs.Runs.{IsPlanOf}
 use Rattle.run_report.specs.Plans.{AreCheaper, ArePlans}
 

@@ -5,8 +5,8 @@ use Rattle.std.specs.List.{IsLastAndRest}
 use Rattle.std.proofs.Math.Seq.{take-append_seam}
 use Rattle.lama_num.specs.Decimals.{decimal_of}
 use Rattle.lama_num.proofs.ListLaws.{slice_get-append_last}
-use Rattle.portfolio_text.specs.AliasNames.{alias_of}
-use Rattle.portfolio_text.specs.declared.aliases.AliasName.{AliasName}
+use Rattle.conf_text.specs.AliasNames.{alias_of}
+use Rattle.conf_text.specs.declared.alias_names.AliasName.{AliasName}
 use Rattle.run_words.specs.Accepted.{FitsWork, IsAccepted, IsBase, IsLimit, IsMade, IsMemory}
 use Rattle.run_words.specs.Grammar.{Line, Text}
 use Rattle.run_words.specs.OwnNames.{is_own_name}

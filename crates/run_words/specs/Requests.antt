@@ -5,8 +5,8 @@ use Rattle.std.specs.Option.{option_map_or}
 use Rattle.lama_num.specs.Decimals.{decimal_of}
 use Rattle.lama_num.specs.Gives.{◌>>=◌}
 use Rattle.lama_num.specs.Names.{base_of}
-use Rattle.portfolio_text.specs.AliasNames.{alias_of}
-use Rattle.portfolio_text.specs.declared.aliases.AliasName.{AliasName}
+use Rattle.conf_text.specs.AliasNames.{alias_of}
+use Rattle.conf_text.specs.declared.alias_names.AliasName.{AliasName}
 use Rattle.run_words.specs.Grammar.{Text, Line, line_of}
 use Rattle.run_words.specs.OwnNames.{is_own_name}
 use Rattle.run_words.specs.declared.faults.Asked.TheVariants.{Translate, Validate}

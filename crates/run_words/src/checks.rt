@@ -1,7 +1,7 @@
 // The request of the words.
 ghost use Rattle.std.specs.Prelude.{◌≡◌, IfOk, map, nat_lt, string_bytes, unwrap_or, codes};
 ghost use Rattle.lama_num.specs.Gives.{Gives};
-ghost use Rattle.portfolio_text.specs.AliasNames.{alias_of};
+ghost use Rattle.conf_text.specs.AliasNames.{alias_of};
 ghost use Rattle.run_words.specs.Accepted.{IsAccepted};
 ghost use Rattle.run_words.specs.Requests.{chosen, clashes as clash_test, has_task as task_test};
 ghost use Rattle.run_words.specs.Requests.{if_alias, is_limitless as limitless_test, or_bad};

@@ -9,7 +9,8 @@ use Rattle.sas_task.specs.Runs.{cost_at}
 use Rattle.sas_task.proofs.RunLaws.{taken-within, is_some-step}
 use Rattle.open_lists.specs.Items.{Item}
 use Rattle.search_log.specs.declared.turns.Pop.{Pop}
-use Rattle.search_log.specs.Phases.{Phase, adjusted_cost, is_below, is_for_preferred, IsPhase}
+use Rattle.search_log.specs.Phases.{Phase, adjusted_cost, is_for_preferred, IsPhase}
+use Rattle.lama_num.specs.Bounds.{is_below}
 use Rattle.search_log.specs.Places.{Node, Past, latest, put_latest, is_expanded, Place, Turn, id_of, node_at, makes_visit, turns, extend, start_past, past_of, place_by}
 use Rattle.guide.specs.Operators.{applicable_operators}
 use Rattle.search_log.specs.Pending.{pending, puts_of, is_put, item_for}

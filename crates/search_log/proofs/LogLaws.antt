@@ -8,7 +8,8 @@ use Rattle.std.proofs.lemmas.Bool.{cases_Bool, lt-ltb}
 use Rattle.std.specs.Option.{option_to_list}
 use Rattle.search_log.specs.declared.turns.Pop.{Pop}
 use Rattle.search_log.specs.Logs.{Visit}
-use Rattle.search_log.specs.Phases.{Phase, IsPhase, is_below}
+use Rattle.search_log.specs.Phases.{Phase, IsPhase}
+use Rattle.lama_num.specs.Bounds.{is_below}
 use Rattle.search_log.specs.Places.{Node, Past, Turn, makes_visit, turns, extend, start_past, past_of, made_node}
 use Rattle.search_log.specs.Lawful.{Logged, IsNext, Follow, Lawful}
 use Rattle.search_log.proofs.Sound.{Sound}

@@ -7,7 +7,8 @@ use Rattle.std.specs.List.{fold}
 use Rattle.std.proofs.lemmas.Bool.{leb-true}
 use Rattle.std.proofs.lemmas.Option.{slice_get_within}
 use Rattle.sas_task.specs.Runs.{is_goal}
-use Rattle.search_log.specs.Phases.{Phase, lists_of, IsPhase, is_below}
+use Rattle.search_log.specs.Phases.{Phase, lists_of, IsPhase}
+use Rattle.lama_num.specs.Bounds.{is_below}
 use Rattle.search_log.specs.Places.{Node, Past, latest, Place, Turn, id_of, makes_visit, turns, extend, start_past, past_of}
 use Rattle.search_log.specs.Pending.{pending}
 use Rattle.search_log.specs.Rooms.{assignments, room}

@@ -6,7 +6,8 @@ use Rattle.sas_task.specs.declared.contents.CostKind.TheVariants.{Normal, One, P
 use Rattle.sas_task.specs.Runs.{start_of, end_of, states_of, cost_at, cost_of}
 use Rattle.open_lists.specs.declared.entry.Entry.{Entry}
 use Rattle.search_log.specs.declared.turns.Pop.{Pop}
-use Rattle.search_log.specs.Phases.{Phase, adjusted_cost, is_below}
+use Rattle.search_log.specs.Phases.{Phase, adjusted_cost}
+use Rattle.lama_num.specs.Bounds.{is_below}
 use Rattle.search_log.specs.Places.{Place, Node, Past, latest, place_after}
 use Rattle.search_log.specs.Spaces.{IsSettled}
 

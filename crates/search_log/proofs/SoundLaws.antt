@@ -14,7 +14,8 @@ use Rattle.sas_task.specs.States.{step}
 use Rattle.sas_task.specs.Runs.{states_of, end_of, cost_at, start_of}
 use Rattle.search_log.specs.declared.turns.Pop.{Pop}
 use Rattle.search_log.specs.Logs.{Visit}
-use Rattle.search_log.specs.Phases.{Phase, IsPhase, is_below, adjusted_cost}
+use Rattle.search_log.specs.Phases.{Phase, IsPhase, adjusted_cost}
+use Rattle.lama_num.specs.Bounds.{is_below}
 use Rattle.search_log.specs.Places.{Node, latest, put_latest, id_of, start_place, start_past, node_at, Past, Place, makes_visit, extend, place_by}
 use Rattle.search_log.proofs.Sound.{OnPath, Numbered, top_cost, HasLatest, Sound}
 use Rattle.search_log.proofs.Elements.{all-weaker, one_at, push_cases, slice_get-push_below}

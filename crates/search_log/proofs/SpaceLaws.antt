@@ -14,11 +14,13 @@ use Rattle.sas_task.specs.Runs.{IsPlan, start_of, end_of, is_goal, cost_at, cost
 use Rattle.relaxed_task.specs.Reached.{IsDead}
 use Rattle.relaxed_task.proofs.ReachLaws.{no_operators_reach_the_goal}
 use Rattle.search_log.specs.Members.{Member}
-use Rattle.search_log.specs.Phases.{IsPhase, lists_of, is_below, Phase, adjusted_cost}
+use Rattle.search_log.specs.Phases.{IsPhase, lists_of, Phase, adjusted_cost}
+use Rattle.lama_num.specs.Bounds.{is_below}
 use Rattle.search_log.specs.Places.{past_of, Node, Past, latest, is_goal_node}
 use Rattle.search_log.specs.Pending.{pending}
 use Rattle.search_log.specs.Lawful.{Lawful, is_full, GoesOn}
-use Rattle.search_log.specs.Spaces.{IsSettled, IsIn, IsFound, StaysIn, IsClosed, IsExhausted, node_member, space_of, is_exact, is_normal}
+use Rattle.search_log.specs.Spaces.{IsSettled, IsIn, IsFound, StaysIn, IsClosed, IsExhausted, node_member, space_of, is_exact}
+use Rattle.sas_task.specs.Costs.{is_normal}
 use Rattle.search_log.specs.Guided.{TellsDead}
 use Rattle.search_log.proofs.Sound.{Sound}
 use Rattle.search_log.proofs.Elements.{from-map, none-at}

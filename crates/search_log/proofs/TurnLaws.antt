@@ -10,7 +10,8 @@ use Rattle.sas_task.specs.Runs.{is_goal}
 use Rattle.search_log.specs.declared.turns.Pop.{Pop}
 use Rattle.search_log.specs.declared.turns.PopResult.TheVariants.{Known, Goal, Visited, Full, Dead, Again}
 use Rattle.search_log.specs.Logs.{Visit}
-use Rattle.search_log.specs.Phases.{Phase, is_below}
+use Rattle.search_log.specs.Phases.{Phase}
+use Rattle.lama_num.specs.Bounds.{is_below}
 use Rattle.search_log.specs.Places.{Place, Node, Past, Turn, latest, id_of, place_after, reached, node_at, makes_visit, extend, place_by}
 use Rattle.search_log.specs.Lawful.{is_full, result_at, result_of, is_reopened, is_called_dead}
 

@@ -10,7 +10,8 @@ use Rattle.open_lists.specs.Items.{Item}
 use Rattle.open_lists.specs.declared.entry.Entry.{Entry}
 use Rattle.sas_task.proofs.RunLaws.{is_some-step}
 use Rattle.search_log.specs.declared.turns.Pop.{Pop}
-use Rattle.search_log.specs.Phases.{Phase, is_below}
+use Rattle.search_log.specs.Phases.{Phase}
+use Rattle.lama_num.specs.Bounds.{is_below}
 use Rattle.search_log.specs.Places.{Place, Node, Past, Turn, latest, is_expanded, place_after, reached, place_by}
 use Rattle.guide.specs.Operators.{applicable_operators}
 use Rattle.search_log.specs.Pending.{pending, puts_of, is_put, item_for, is_taken}

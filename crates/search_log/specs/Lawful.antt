@@ -9,7 +9,8 @@ use Rattle.search_log.specs.declared.turns.Pop.{Pop}
 use Rattle.search_log.specs.declared.turns.PopResult.{PopResult}
 use Rattle.search_log.specs.declared.turns.PopResult.TheVariants.{Known, Dead, Goal, Visited, Again, Full}
 use Rattle.search_log.specs.Logs.{Visit}
-use Rattle.search_log.specs.Phases.{Phase, is_below, lists_of}
+use Rattle.search_log.specs.Phases.{Phase, lists_of}
+use Rattle.lama_num.specs.Bounds.{is_below}
 use Rattle.search_log.specs.Places.{Place, Node, Past, Turn, latest, id_of, reached, is_goal_node, makes_visit, turns, extend, start_past, past_of}
 use Rattle.search_log.specs.Pending.{pending, counter}
 

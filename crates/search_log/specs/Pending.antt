@@ -6,7 +6,8 @@ use Rattle.guide.specs.Operators.{applicable_operators, is_among}
 use Rattle.open_lists.specs.Items.{Item, item_of}
 use Rattle.open_lists.specs.Runs.{entry_of}
 use Rattle.search_log.specs.declared.turns.Pop.{Pop}
-use Rattle.search_log.specs.Phases.{Phase, is_below, guide_of, is_for_preferred}
+use Rattle.search_log.specs.Phases.{Phase, guide_of, is_for_preferred}
+use Rattle.lama_num.specs.Bounds.{is_below}
 use Rattle.search_log.specs.Places.{Node, Past, is_expanded, estimate}
 
 -- the key of a visit's entries: the estimate, or in a weighted phase g plus weight times that

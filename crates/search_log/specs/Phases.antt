@@ -27,11 +27,6 @@ pub record IsPhase (phase : Phase) : Type 0 where
   pub few_guides : phase.guides ≤ 3
   pub setting : IsSetting phase.setting
 
--- whether a cost is below the bound, if there is one
-abbrev pub is_below : Option ℕ → ℕ → Bool
-is_below None cost = true
-is_below (Some bound) cost = nat_lt cost bound
-
 -- an operator's cost by the phase's kind of cost
 abbrev pub adjusted_cost : Phase → ℕ → ℕ
 adjusted_cost phase op = costs.adjusted_cost phase.parts op phase.setting.cost

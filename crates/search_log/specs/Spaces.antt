@@ -7,8 +7,10 @@ use Rattle.sas_task.specs.States.{IsState, settled, step}
 use Rattle.sas_task.specs.Runs.{start_of, is_goal, cost_at}
 use Rattle.relaxed_task.specs.Reached.{IsDead}
 use Rattle.search_log.specs.Members.{Member}
-use Rattle.search_log.specs.Phases.{Phase, is_below}
+use Rattle.search_log.specs.Phases.{Phase}
+use Rattle.lama_num.specs.Bounds.{is_below}
 use Rattle.search_log.specs.Places.{Node, Past, latest}
+use Rattle.sas_task.specs.Costs.{is_normal}
 
 -- The visited states by id, each with the real cost of its latest visit.
 abbrev pub node_member : Node → Member
@@ -16,11 +18,6 @@ node_member n = record { state = n.place.state; cost = n.place.real }
 
 abbrev pub space_of : Past → List Member
 space_of past = map node_member (latest past.nodes)
-
-abbrev pub is_normal : CostKind → Bool
-is_normal Normal = true
-is_normal One = false
-is_normal PlusOne = false
 
 -- A phase is exact where it reopens under real costs.
 abbrev pub is_exact : Phase → Bool

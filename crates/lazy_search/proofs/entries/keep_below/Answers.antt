@@ -2,7 +2,7 @@ use Rattle.std.proofs.Common.{◌+◌, ℕ, ap, sym, ◌∙◌, arith}
 use Rattle.std.specs.Prelude.{Vec}
 use Rattle.std.specs.declared.alloc.Global.{Global}
 use Rattle.sas_task.specs.Runs.{cost_at}
-use Rattle.search_log.specs.Phases.{is_below}
+use Rattle.lama_num.specs.Bounds.{is_below}
 use Rattle.lazy_search.proofs.Loops.{kept_more, kept_same}
 use Rattle.lazy_search.proofs.entries.keep_below.Goals as goal
 use Rattle.lazy_search.proofs.entries.keep_below.Goals.{then-leads_below+in_ok-push, else-leads_below}

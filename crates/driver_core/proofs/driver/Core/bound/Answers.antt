@@ -1,5 +1,5 @@
 use Rattle.std.proofs.Common.{◌∙◌, ap, sym}
-use Rattle.driver_core.specs.Keeping.{is_below}
+use Rattle.lama_num.specs.Bounds.{is_below}
 use Rattle.driver_core.specs.States.{CoreState}
 use Rattle.driver_core.proofs.Stopping.{kept_where_below}
 use Rattle.driver_core.proofs.driver.Core.bound.Goals as goal

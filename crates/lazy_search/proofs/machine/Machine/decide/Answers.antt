@@ -6,11 +6,11 @@ use Rattle.lazy_search.proofs.Arriving.{looked, decided_over, decided_new, decid
 use Rattle.lazy_search.proofs.Deciding.{opens, next_is, to_state}
 use Rattle.lazy_search.proofs.machine.Machine.decide.Goals as goal
 
-pub returns-then-not-stays_below-clause-arrives : goal.returns-then-not-stays_below-clause-arrives
-returns-then-not-stays_below-clause-arrives c =
+pub returns-then-not-is_below-clause-arrives : goal.returns-then-not-is_below-clause-arrives
+returns-then-not-is_below-clause-arrives c =
     let m = c.args.self.now in
     let phase = phase_of c.args.task.now c.args.setting.now c.args.shape in
-    decided_over phase m (past_in phase m) c.args.reached c.requires.reaches (sym c.stays_below.ensures ∙ c.if-not-stays_below.true)
+    decided_over phase m (past_in phase m) c.args.reached c.requires.reaches (sym c.is_below.ensures ∙ c.if-not-is_below.true)
 
 pub follow-requires-clause-opens : goal.follow-requires-clause-opens
 follow-requires-clause-opens c =
@@ -48,7 +48,7 @@ returns-in-New-clause-arrives c =
     let R = c.requires.reaches in
     let l = looked phase m past c.args.reached R c.follow.new.self c.intern.new.self _ _ c.requires.phase c.follow.ensures.kept c.follow.ensures.next
     c.in_ok-id.ensures.ready c.in_ok-id.ensures.next c.in_ok-id.ensures.most c.in_ok-id.ensures.layout c.in_ok-id.ensures.interns c.in-New.is in
-    decided_new phase m past c.args.reached c.in-New.id R c.follow.new.self c.intern.new.self (sym c.stays_below.ensures ∙ c.if-not-stays_below.false) l
+    decided_new phase m past c.args.reached c.in-New.id R c.follow.new.self c.intern.new.self (sym c.is_below.ensures ∙ c.if-not-is_below.false) l
 
 pub returns-in-Full-clause-arrives : goal.returns-in-Full-clause-arrives
 returns-in-Full-clause-arrives c =
@@ -58,7 +58,7 @@ returns-in-Full-clause-arrives c =
     let R = c.requires.reaches in
     let l = looked phase m past c.args.reached R c.follow.new.self c.intern.new.self _ _ c.requires.phase c.follow.ensures.kept c.follow.ensures.next
     c.in_ok-id.ensures.ready c.in_ok-id.ensures.next c.in_ok-id.ensures.most c.in_ok-id.ensures.layout c.in_ok-id.ensures.interns c.in-Full.is in
-    decided_full phase m past c.args.reached R c.follow.new.self c.intern.new.self (sym c.stays_below.ensures ∙ c.if-not-stays_below.false) l
+    decided_full phase m past c.args.reached R c.follow.new.self c.intern.new.self (sym c.is_below.ensures ∙ c.if-not-is_below.false) l
 
 pub returns-then-reopens-clause-arrives : goal.returns-then-reopens-clause-arrives
 returns-then-reopens-clause-arrives c =
@@ -68,7 +68,7 @@ returns-then-reopens-clause-arrives c =
     let R = c.requires.reaches in
     let l = looked phase m past c.args.reached R c.follow.new.self c.intern.new.self _ _ c.requires.phase c.follow.ensures.kept c.follow.ensures.next
     c.in_ok-id.ensures.ready c.in_ok-id.ensures.next c.in_ok-id.ensures.most c.in_ok-id.ensures.layout c.in_ok-id.ensures.interns c.in-Known.is in
-    decided_again phase m past c.args.reached c.in-Known.id c.index.result.now R c.follow.new.self c.intern.new.self c.requires.phase (sym c.stays_below.ensures ∙ c.if-not-stays_below.false) l c.index.ensures (sym c.if-reopens.true ∙ c.reopens.ensures)
+    decided_again phase m past c.args.reached c.in-Known.id c.index.result.now R c.follow.new.self c.intern.new.self c.requires.phase (sym c.is_below.ensures ∙ c.if-not-is_below.false) l c.index.ensures (sym c.if-reopens.true ∙ c.reopens.ensures)
 
 pub returns-else-reopens-clause-arrives : goal.returns-else-reopens-clause-arrives
 returns-else-reopens-clause-arrives c =
@@ -78,4 +78,4 @@ returns-else-reopens-clause-arrives c =
     let R = c.requires.reaches in
     let l = looked phase m past c.args.reached R c.follow.new.self c.intern.new.self _ _ c.requires.phase c.follow.ensures.kept c.follow.ensures.next
     c.in_ok-id.ensures.ready c.in_ok-id.ensures.next c.in_ok-id.ensures.most c.in_ok-id.ensures.layout c.in_ok-id.ensures.interns c.in-Known.is in
-    decided_known phase m past c.args.reached c.in-Known.id c.index.result.now R c.follow.new.self c.intern.new.self c.requires.phase (sym c.stays_below.ensures ∙ c.if-not-stays_below.false) l c.index.ensures (sym c.if-reopens.false ∙ c.reopens.ensures)
+    decided_known phase m past c.args.reached c.in-Known.id c.index.result.now R c.follow.new.self c.intern.new.self c.requires.phase (sym c.is_below.ensures ∙ c.if-not-is_below.false) l c.index.ensures (sym c.if-reopens.false ∙ c.reopens.ensures)

@@ -1,6 +1,6 @@
 // The names of the configurations that are built in.
 ghost use Rattle.std.specs.Prelude.{◌≡◌};
-ghost use Rattle.portfolio_text.specs.AliasNames.{alias_of, alias_text};
+ghost use Rattle.conf_text.specs.AliasNames.{alias_of, alias_text};
 
 /// A configuration that is built in, by its name.
 #[derive(Clone, Copy, PartialEq, Eq)]

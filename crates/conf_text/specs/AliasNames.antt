@@ -1,8 +1,8 @@
 -- The names of the configurations that are built in.
 use Rattle.std.specs.Prelude.{ℕ, List, codes, Option, Some, None, if◌then◌else◌}
 use Rattle.std.specs.Str.{bytes_eq}
-use Rattle.portfolio_text.specs.declared.aliases.AliasName.{AliasName}
-use Rattle.portfolio_text.specs.declared.aliases.AliasName.TheVariants.{Lama, LamaFirst}
+use Rattle.conf_text.specs.declared.alias_names.AliasName.{AliasName}
+use Rattle.conf_text.specs.declared.alias_names.AliasName.TheVariants.{Lama, LamaFirst}
 
 abbrev pub alias_text : AliasName → List ℕ
 alias_text Lama = codes "lama"
