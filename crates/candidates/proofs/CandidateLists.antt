@@ -42,6 +42,7 @@ pub record AreFew (many : Bool) (count : ℕ) : Type 0 where
 pub record WritesPlans (base : List ℕ) (many : Bool) (parts : Parts) (kept_before : ℕ) (plans : List Kept) (before after : Files) : Type 0 where
   pub texts : (k : ℕ) (plan : Kept) → slice_get plans k ≡ Some plan → get after (plan_file base many (kept_before + k + 1)) ≡ Some (plan_text parts plan.ops)
   pub others : (name : List ℕ) → name ≢ part_name base → ((k : ℕ) → k < length plans → name ≢ plan_file base many (kept_before + k + 1)) → get after name ≡ get before name
+
 -- lists put together
 
 pub plans_of-append : (turn : Turn) (first second : List Judged) → plans_of turn (first ++ second) ≡ plans_of turn first ++ plans_of turn second

@@ -3,6 +3,7 @@ use Rattle.std.specs.Prelude.{ℕ, zero, suc, List, [], ◌∷◌, ◌++◌, Opt
 use Rattle.std.specs.FinMap.{get}
 use Rattle.lama_host.specs.Folder.{Files}
 use Rattle.plan_manager.specs.Family.{family_name}
+use Rattle.lama_num.specs.declared.names.TheConstants.{MOST_PLANS}
 
 -- a file of a child: its number, 0 for base.cE and n for base.cE.n, and its bytes
 pub record ChildFile : Type 0 where
@@ -28,4 +29,4 @@ numbered_files files child number (suc most) = onto_file (file_at files child nu
 
 -- all files of a child, in order: the single one, which needn't be there, and those from 1 on up to the first that isn't there
 abbrev pub child_files : Files → List ℕ → List ChildFile
-child_files files child = option_to_list (file_at files child 0) ++ numbered_files files child 1 9999
+child_files files child = option_to_list (file_at files child 0) ++ numbered_files files child 1 MOST_PLANS

@@ -15,13 +15,13 @@ use crate::offers::Candidate;
 use crate::reading::ReadError;
 use driver_core::Core;
 use lama_host::Folder;
-use lama_num::NameBuf;
+use lama_num::{MOST_PLANS, NameBuf};
 use plan_manager::FamilyFile;
 use sas_task::{Kept, Task};
 use std::alloc::Global;
 
 /// The numbers of a child's files end here.
-const END: u32 = 10_000;
+const END: u32 = MOST_PLANS + 1;
 
 /// Judges the plan files that the child of an entry left in a round: `base.cE`, `base.cE.1`,
 /// `base.cE.2` and so on up to the first number that isn't there, as long as the run isn't over. A

@@ -9,12 +9,9 @@ use crate::reading::{ReadError, Whole, read_whole};
 use lama_host::Folder;
 use lama_num::NoMemory;
 use plan_check::{PlanFault, Verdict, judge};
-use plan_text::PlanTextFault;
+use plan_text::{MOST_PLAN_BYTES, PlanTextFault};
 use sas_task::Task;
 use std::alloc::Global;
-
-/// The most bytes of a plan file.
-const MOST_BYTES: u64 = 67_108_864;
 
 /// The verdict on a file, if it is there.
 pub fn judge_file<F: Folder>(
@@ -33,7 +30,7 @@ pub fn judge_file<F: Folder>(
     ensures sound { IfOk result (λ verdict. IfSome verdict (λ v. IsPlanIfGood task.now v)) }
     ensures bound { IfOk result (λ verdict. IfSome verdict (λ v. HeedsBound bound v)) }
 {
-    match read_whole(alloc, folder, name, MOST_BYTES)? {
+    match read_whole(alloc, folder, name, MOST_PLAN_BYTES as u64)? {
         Whole::Missing => Ok(None),
         Whole::TooLong => Ok(Some(Verdict::Bad(PlanFault::Text(PlanTextFault::TooLong)))),
         Whole::Bytes(bytes) => match judge(alloc, task, &bytes, bound) {

@@ -13,6 +13,7 @@ ghost use Rattle.driver_core.specs.Turns.{turn_of, offers};
 ghost use Rattle.candidates.specs.Judging.{real_cost as the_real_cost, IsPlanIfGood, HeedsBound};
 ghost use Rattle.candidates.specs.Collecting.{IsInTurn, KeepsBelow, TakesIn};
 ghost use Rattle.candidates.specs.Collecting.{standing, finished};
+ghost use Rattle.lama_num.specs.declared.names.TheConstants.{MOST_PLANS};
 
 use crate::offers::{Candidate, Found};
 use crate::reading::ReadError;
@@ -65,7 +66,7 @@ pub fn keep_candidate<F: Folder>(
 ) -> Result<(), ReadError>
     requires idle { (F.told folder.old).busy ≡ [] }
     requires short { length base.now ≤ 200 }
-    requires room { length kept.old.items < 9999 }
+    requires room { length kept.old.items < MOST_PLANS }
     requires single { many ≡ false → length kept.old.items ≡ 0 }
     ensures stays { Stays (F.told folder.old) (F.told folder.new) }
     ensures failed { result ≡ Err ReadError.Failed
@@ -169,7 +170,7 @@ pub(crate) fn take_candidate<F: Folder>(
 ) -> Result<(), ReadError>
     requires idle { (F.told folder.old).busy ≡ [] }
     requires short { length base.now ≤ 200 }
-    requires room { length kept.old.items < 9999 }
+    requires room { length kept.old.items < MOST_PLANS }
     requires single { many ≡ false → length kept.old.items ≡ 0 }
     requires plan { IsPlanIfGood task.now verdict }
     ensures stays { Stays (F.told folder.old) (F.told folder.new) }

@@ -9,6 +9,7 @@ use Rattle.driver_core.specs.declared.events.Event.{Event}
 use Rattle.driver_core.specs.declared.events.Event.TheVariants.{Began, Candidate, Ended, OutOfTime}
 use Rattle.driver_core.specs.declared.settings.Setting.{Setting}
 use Rattle.driver_core.specs.Keeping.{kept_costs}
+use Rattle.lama_num.specs.declared.names.TheConstants.{MOST_PLANS}
 
 -- the part that an event tells of: how a turn ended, or that the run is out of time
 abbrev pub part_in : Event → Option Part
@@ -22,7 +23,7 @@ parts_in events = filter_map part_in events
 
 -- a run that keeps 9,999 plans met a limit
 abbrev pub limit_parts : ℕ → List Part
-limit_parts kept = if kept == 9999 then PlanLimit ∷ [] else []
+limit_parts kept = if kept == MOST_PLANS then PlanLimit ∷ [] else []
 
 -- The exit code: that of the ends, of having run out of time, and of the limit on plans, combined.
 abbrev pub code_of : Setting → List Event → ℕ

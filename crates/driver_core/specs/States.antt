@@ -14,6 +14,7 @@ use Rattle.driver_core.specs.declared.settings.Setting.{Setting}
 use Rattle.driver_core.specs.Settings.{most_plans}
 use Rattle.lama_num.specs.Bounds.{is_below}
 use Rattle.driver_core.specs.Running.{stop_or}
+use Rattle.lama_num.specs.declared.names.TheConstants.{MOST_PLANS}
 
 pub record CoreState : Type 0 where
   pub setting : Setting
@@ -75,7 +76,7 @@ is_done core = core.out_of_time || (core.last || (nat_le (most_plans core.settin
 
 -- the codes of all parts, that of the limit on plans among them
 abbrev pub all_codes : CoreState → CodeSet
-all_codes core = if core.kept == 9999 then set.union core.codes (norm_of PlanLimit) else core.codes
+all_codes core = if core.kept == MOST_PLANS then set.union core.codes (norm_of PlanLimit) else core.codes
 
 abbrev pub accepts : CoreState → ℕ → Bool
 accepts core cost = is_below core.bound cost && nat_lt core.kept (most_plans core.setting.single)

@@ -4,18 +4,18 @@ ghost use Rattle.std.specs.Prelude.{List, [], ◌∷◌, ◌++◌, length};
 ghost use Rattle.std.specs.Option.{option_copied};
 ghost use Rattle.std.specs.List.{list_all, list_any};
 ghost use Rattle.driver_core.specs.Settings.{is_share, most_plans};
+ghost use Rattle.lama_num.specs.declared.names.TheConstants.{MOST_PLANS};
 
 use crate::events::{Action, Event};
 use crate::marks::{any_marked, count, has_mark, mark, move_on};
 use crate::settings::Setting;
 use crate::shares::portion;
 use exit_codes::{Codes, Part, combine, norm};
-use lama_num::{NoMemory, Seq, duplicate_items};
+use lama_num::{MOST_PLANS, NoMemory, Seq, duplicate_items, is_below};
 use std::alloc::Global;
 use std::marker::Model;
 
 /// How many plans a run keeps at most.
-const MOST_PLANS: u32 = 9999;
 
 /// The event core of a run. It stores no events: it stands for a list of them.
 #[derive(Drop)]
@@ -200,7 +200,7 @@ impl Core {
 
     /// Keeps a plan of an entry.
     fn keep(&mut self, entry: u32, cost: u64)
-        requires few { self.old.kept < 9999 }
+        requires few { self.old.kept < MOST_PLANS }
         ensures state { self.new ≡ with_plan self.old entry cost }
     {
         self.bound = Some(cost);
@@ -211,7 +211,7 @@ impl Core {
     /// Whether a plan of this cost would be kept.
     fn accepts(&self, cost: u64) -> bool
         ensures answer { result ≡ accepts self.now cost }
-        ensures few { result ≡ true → self.now.kept < 9999 }
+        ensures few { result ≡ true → self.now.kept < MOST_PLANS }
     {
         is_below(self.bound, cost) && self.kept < self.most()
     }
@@ -219,7 +219,7 @@ impl Core {
     /// How many plans the run keeps.
     fn most(&self) -> u32
         ensures most { result ≡ most_plans self.now.setting.single }
-        ensures few { result ≤ 9999 }
+        ensures few { result ≤ MOST_PLANS }
     {
         if self.setting.single { 1 } else { MOST_PLANS }
     }

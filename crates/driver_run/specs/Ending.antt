@@ -17,10 +17,11 @@ use Rattle.driver_run.specs.declared.aims.Aim.{Aim}
 use Rattle.driver_run.specs.declared.running.Left.{Left}
 use Rattle.driver_run.specs.Leaves.{LeavesPlans}
 use Rattle.driver_run.specs.Reports.{IsRunReport, TellsTask}
+use Rattle.lama_num.specs.declared.names.TheConstants.{MOST_PLANS}
 
 -- why a run ends that came to its end, by how many plans it kept
 abbrev pub end_by : ℕ → Why
-end_by kept = if nat_eq kept 9999 then PlanLimit else Finished
+end_by kept = if nat_eq kept MOST_PLANS then PlanLimit else Finished
 
 -- the report of a run on a task
 abbrev pub report_by : Parts → Bool → ℕ → Left → Report

@@ -27,6 +27,7 @@ use Rattle.driver_run.specs.declared.progress.Progress.{Progress}
 use Rattle.driver_run.specs.declared.progress.Trail.{Trail}
 use Rattle.driver_run.specs.declared.progress.Stop.{Stop}
 use Rattle.driver_run.specs.declared.progress.Stop.TheVariants.{Fault, NoMemory as OutOfMemory}
+use Rattle.lama_num.specs.declared.names.TheConstants.{MOST_PLANS}
 
 -- the run of a configuration with one entry
 abbrev pub run_by : Parts → Config → Setting → Run
@@ -93,7 +94,7 @@ pub record IsSearching (parts : Parts) (phases : Iterating) (many : Bool) (progr
   pub task : IsFor phases parts
   pub numbered : many ≡ phases.config.iterated
   pub going : phases.next ≡ None → found ≡ true
-  pub full : length progress.kept.items ≡ 9999 → found ≡ true
+  pub full : length progress.kept.items ≡ MOST_PLANS → found ≡ true
   pub one : many ≡ false → length progress.kept.items ≤ 1
   pub alone : many ≡ false → phases.next ≢ None → progress.kept.items ≡ []
   pub few : length trail.past.items ≤ length progress.kept.items + place_of phases.next (length phases.config.phases)

@@ -10,6 +10,7 @@ use Rattle.conf_text.specs.AliasNames.{alias_of}
 use Rattle.run_report.specs.declared.report.Opt.TheVariants.{Bound}
 use Rattle.run_report.specs.declared.report.WordsFault.{WordsFault}
 use Rattle.run_report.specs.declared.report.WordsFault.TheVariants.{Refused, BadValue, UnknownAlias, NameClash}
+use Rattle.lama_num.specs.declared.names.TheConstants.{MOST_PLANS}
 
 -- the base of the plan files
 abbrev pub base_name : List ℕ
@@ -29,7 +30,7 @@ is_plan_number digits = numbers (decimal_of digits)
   where
     numbers : Option ℕ → Bool
     numbers None = false
-    numbers (Some n) = nat_le 1 n && (nat_le n 9999 && bytes_eq digits (decimal n))
+    numbers (Some n) = nat_le 1 n && (nat_le n MOST_PLANS && bytes_eq digits (decimal n))
 
 abbrev pub begins_with_digit : List ℕ → Bool
 begins_with_digit [] = false

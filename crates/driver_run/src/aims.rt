@@ -7,9 +7,8 @@ ghost use Rattle.driver_run.specs.Seen.{seen_work};
 ghost use Rattle.driver_run.specs.Requests.{chosen_of, config_for, is_many as many_test, IsChosen};
 
 use crate::words::Work;
-use conf_text::{ConfError, Config, alias, read};
+use conf_text::{AliasName, ConfError, Config, alias, read};
 use lama_num::NoMemory;
-use conf_text::AliasName;
 use std::alloc::Global;
 
 /// A configuration, or one that is built in, which depends on the task.

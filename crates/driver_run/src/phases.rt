@@ -8,6 +8,7 @@ ghost use Rattle.driver_run.specs.Words.{base_name};
 ghost use Rattle.driver_run.specs.Searching.{run_by, IsSearching, HasEnded, IsStopped};
 ghost use Rattle.driver_run.specs.Searching.{AsksNoMore, phase_memory, search_memory};
 ghost use Rattle.driver_run.specs.Searching.{HasSame, HasKept, HasCounted, HasPassed};
+ghost use Rattle.lama_num.specs.declared.names.TheConstants.{MOST_PLANS};
 
 use crate::progress::{ENTRY, Progress, ROUND, Stop, Trail};
 use candidates::{ReadError, keep_candidate};
@@ -35,7 +36,7 @@ fn keep_plan<F: Folder>(
 ) -> Result<(), ReadError>
     requires idle { (F.told folder.old).busy ≡ [] }
     requires base { base.now ≡ base_name }
-    requires room { length progress.old.kept.items < 9999 }
+    requires room { length progress.old.kept.items < MOST_PLANS }
     requires single { many ≡ false → progress.old.kept.items ≡ [] }
     ensures stays { Stays (F.told folder.old) (F.told folder.new) }
     ensures failed { result ≡ Err ReadError.Failed
@@ -82,7 +83,7 @@ fn take_plan<F: Folder>(
 ) -> Result<(), Stop>
     requires idle { (F.told folder.old).busy ≡ [] }
     requires base { base.now ≡ base_name }
-    requires room { length progress.old.kept.items < 9999 }
+    requires room { length progress.old.kept.items < MOST_PLANS }
     requires single { many ≡ false → progress.old.kept.items ≡ [] }
     requires phases { trail.old.phases + 1 < 2 ^ 32 }
     requires pops { trail.old.pops + length log.pops < 2 ^ 64 }

@@ -32,7 +32,7 @@ use crate::words::{BASE, Line, read_line};
 use candidates::Candidate;
 use conf_text::{ConfError, Config};
 use lama_host::{Clock, Failed, Folder, Host, Sink};
-use lama_num::{NameBuf, NoMemory, Seq};
+use lama_num::{MOST_PLANS, NameBuf, NoMemory, Seq};
 use plan_manager::{clear, seal};
 use run_report::{
     Ended, EntryEnd, Input, Report, Why, a_run_is_told, a_run_with_room_is_complete,
@@ -43,7 +43,6 @@ use sas_task::{Kept, Task};
 use std::alloc::Global;
 
 /// How many plans a run keeps at most.
-const MOST_PLANS: usize = 9999;
 
 /// What a run kept, and why it ended.
 #[derive(Drop)]
@@ -158,7 +157,7 @@ fn task_code(fault: SasFault) -> u8
 fn why_of(progress: &Progress) -> Why
     ensures { result ≡ end_by (length progress.now.kept.items) }
 {
-    if progress.kept.len() == MOST_PLANS {
+    if progress.kept.len() == MOST_PLANS as usize {
         Why::PlanLimit
     } else {
         Why::Finished

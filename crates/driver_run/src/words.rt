@@ -14,9 +14,9 @@ ghost use Rattle.driver_run.specs.Words.{is_of_child as child_test};
 ghost use Rattle.driver_run.specs.Words.{is_own_ending as ending_test};
 ghost use Rattle.driver_run.specs.Words.{is_own_name as own_test};
 
-use itoa::Buffer;
-use lama_num::read_decimal;
 use conf_text::AliasName;
+use itoa::Buffer;
+use lama_num::{MOST_PLANS, read_decimal};
 use run_report::{Opt, WordsFault};
 
 /// The base of the plan files.
@@ -48,7 +48,7 @@ fn is_plan_number(digits: &[u8]) -> bool
 {
     match read_decimal(digits) {
         None => false,
-        Some(n) => 1 <= n && n <= 9999 && digits == Buffer::new().format(n).as_bytes(),
+        Some(n) => 1 <= n && n <= MOST_PLANS && digits == Buffer::new().format(n).as_bytes(),
     }
 }
 

@@ -7,6 +7,7 @@ use Rattle.relaxed_task.specs.declared.unary.Unary.{Unary}
 use Rattle.relaxed_task.specs.Numbers.{is_below, is_unary_below}
 use Rattle.relaxed_task.specs.declared.relaxation.Lists.{Lists}
 use Rattle.h_add.specs.declared.network.Open.{Open}
+use Rattle.lama_num.specs.declared.estimates.TheConstants.{LARGEST_ESTIMATE}
 
 abbrev pub are_below : ℕ → List ℕ → Bool
 are_below n facts = list_all (is_below n) facts
@@ -29,7 +30,7 @@ AreFree unaries row = (i : ℕ) (u : Unary) → slice_get unaries i ≡ Some u �
 
 -- all that is needed, and the cost, at most 1,000,000,000
 abbrev pub open_at_start : Unary → Open
-open_at_start u = record { count = max (length u.conds) 1; sum = min u.cost 1000000000 }
+open_at_start u = record { count = max (length u.conds) 1; sum = min u.cost LARGEST_ESTIMATE }
 
 -- a place was added to the lists of some facts, as often as they stand there
 pub record Listed (old new : List (List ℕ)) (facts : List ℕ) (place : ℕ) : Type 0 where

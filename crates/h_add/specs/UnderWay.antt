@@ -10,6 +10,7 @@ use Rattle.relaxed_task.specs.declared.unary.Unary.{Unary}
 use Rattle.relaxed_task.specs.Numbers.{is_among, is_below, over_numbers}
 use Rattle.relaxed_task.specs.Relaxing.{IsInOrder}
 use Rattle.h_add.specs.Networks.{open_at_start}
+use Rattle.lama_num.specs.declared.estimates.TheConstants.{LARGEST_ESTIMATE}
 
 -- For each fact what it costs so far and whether that is settled; for each unary operator what it has open, and the price
 -- under which it waits, if it does; and the unary operators that settled a fact, in order.
@@ -38,11 +39,11 @@ is_settled t fact = slice_index_or t.settled fact false
 
 -- settled at a cost
 abbrev pub is_reached : Settlement → ℕ → Bool
-is_reached t fact = is_settled t fact && nat_le (cost_at t fact) 1000000000
+is_reached t fact = is_settled t fact && nat_le (cost_at t fact) LARGEST_ESTIMATE
 
 -- settled with nothing given
 abbrev pub is_left_out : Settlement → ℕ → Bool
-is_left_out t fact = is_settled t fact && not (nat_le (cost_at t fact) 1000000000)
+is_left_out t fact = is_settled t fact && not (nat_le (cost_at t fact) LARGEST_ESTIMATE)
 
 abbrev pub open_at : Settlement → ℕ → Open
 open_at t place = slice_index_or t.opens place (record { count = 0; sum = 0 })
@@ -56,7 +57,7 @@ offered t fact place price =
 
 -- one condition less is open
 abbrev pub less_open : Open → ℕ → Open
-less_open counts value = record { count = counts.count - 1; sum = min (counts.sum + value) 1000000000 }
+less_open counts value = record { count = counts.count - 1; sum = min (counts.sum + value) LARGEST_ESTIMATE }
 
 abbrev pub counted : Settlement → ℕ → ℕ → Settlement
 counted t place value = record t { opens = slice_set t.opens place (less_open (open_at t place) value) }
@@ -91,8 +92,8 @@ summed f (c ∷ conds) = f c + summed f conds
 -- what it gives.
 pub record IsCounted (t : Settlement) (level : ℕ) (owed : List ℕ) (place : ℕ) (u : Unary) : Type 0 where
   pub count : (open_at t place).count ≡ summed (one_open t) u.conds + occurrences place owed
-  pub sum : min ((open_at t place).sum + occurrences place owed * level) 1000000000 ≡ min (u.cost + summed (share t) u.conds) 1000000000
-  pub small : (open_at t place).sum ≤ 1000000000
+  pub sum : min ((open_at t place).sum + occurrences place owed * level) LARGEST_ESTIMATE ≡ min (u.cost + summed (share t) u.conds) LARGEST_ESTIMATE
+  pub small : (open_at t place).sum ≤ LARGEST_ESTIMATE
   pub offered : (open_at t place).count ≡ 0 → is_left_out t u.gives ≡ false → cost_at t u.gives ≤ (open_at t place).sum
 
 -- who waits has no open condition, and waits for its price
@@ -119,11 +120,11 @@ pub record HasSettled (unaries : List Unary) (t : Settlement) (place : ℕ) : Ty
 
 -- Facts that are settled cost at most so much, and those that wait at least. Some unary operators have still to count a fact of that cost.
 pub record IsUnderWay (unaries : List Unary) (level : ℕ) (owed : List ℕ) (t : Settlement) : Type 0 where
-  pub level_small : level ≤ 1000000000
+  pub level_small : level ≤ LARGEST_ESTIMATE
   pub opens_long : length t.opens ≡ length unaries
   pub each : (place : ℕ) (u : Unary) → slice_get unaries place ≡ Some u → IsCounted t level owed place u
   pub waits : (place price : ℕ) → price_of t.waiting place ≡ Some price → IsWaiting t level place price
-  pub wanted : (fact : ℕ) → is_settled t fact ≡ false → cost_at t fact ≤ 1000000000 → IsWanted unaries t fact
+  pub wanted : (fact : ℕ) → is_settled t fact ≡ false → cost_at t fact ≤ LARGEST_ESTIMATE → IsWanted unaries t fact
   pub low : (fact : ℕ) → is_reached t fact ≡ true → cost_at t fact ≤ level
   pub settled_by : (place : ℕ) → is_among t.order place ≡ true → HasSettled unaries t place
 
@@ -139,7 +140,7 @@ pub record IsSettling (unaries : List Unary) (t : Settlement) : Type 0 where
 
 -- No fact is reached: those that are settled are left out.
 pub record IsFresh (unaries : List Unary) (t : Settlement) : Type 0 where
-  pub costs : (fact : ℕ) → 1000000000 < cost_at t fact
+  pub costs : (fact : ℕ) → LARGEST_ESTIMATE < cost_at t fact
   pub opens : t.opens ≡ map open_at_start unaries
   pub idle : IsIdle t.waiting
   pub order : t.order ≡ []

@@ -12,10 +12,11 @@ use Rattle.relaxed_task.specs.Relaxing.{sum_of}
 use Rattle.relaxed_task.specs.Facts.{distinct_facts}
 use Rattle.relaxed_task.specs.Numbers.{costs_by}
 use Rattle.h_add.specs.ByNumber.{IsAdd}
+use Rattle.lama_num.specs.declared.estimates.TheConstants.{LARGEST_ESTIMATE}
 
 -- a cost as it is kept: one above 1,000,000,000 is infinite
 abbrev pub estimate_of : ℕ → Estimate
-estimate_of cost = if nat_le cost 1000000000 then Finite cost else Infinite
+estimate_of cost = if nat_le cost LARGEST_ESTIMATE then Finite cost else Infinite
 
 -- what a fact costs; one that isn't there is infinite
 abbrev pub value_at : List ℕ → ℕ → Estimate

@@ -10,6 +10,7 @@ ghost use Rattle.h_add.specs.UnderWay.{is_settled, open_at, offered, counted, th
 ghost use Rattle.h_add.specs.UnderWay.{given_at};
 ghost use Rattle.h_add.specs.UnderWay.{IsUnderWay, IsSettling, IsLater, IsFresh, HasCounted, Owes};
 ghost use Rattle.h_add.specs.UnderWay.{left_to_do};
+ghost use Rattle.lama_num.specs.declared.estimates.TheConstants.{LARGEST_ESTIMATE};
 
 use crate::network::{Network, Open};
 use crate::sums::INFINITE;
@@ -154,8 +155,8 @@ impl Settling {
     fn count(&mut self, place: usize, value: u32) -> Option<u32>
         requires place { place < length self.old.opens }
         requires some { 0 < (open_at self.old place).count }
-        requires small { (open_at self.old place).sum ≤ 1000000000 }
-        requires value { value ≤ 1000000000 }
+        requires small { (open_at self.old place).sum ≤ LARGEST_ESTIMATE }
+        requires value { value ≤ LARGEST_ESTIMATE }
         ensures counted { self.new ≡ counted self.old place value }
         ensures long { length self.old.waiting ≡ length self.old.opens }
         ensures price { MatchOption result (0 < (open_at self.new place).count)

@@ -11,6 +11,7 @@ use Rattle.state_step.specs.Steps.{is_applicable}
 use Rattle.relaxed_task.specs.Plans.{IsRelaxedPlan}
 use Rattle.relaxed_task.specs.Reached.{IsDead}
 use Rattle.relaxed_task.specs.Facts.{UnaryOperator}
+use Rattle.lama_num.specs.declared.estimates.TheConstants.{LARGEST_ESTIMATE}
 
 -- the operators of unary operators, one after the other; a rule has none
 abbrev pub operators_of : List UnaryOperator → List ℕ
@@ -23,7 +24,7 @@ pub record AreEachOnce (all once : List ℕ) : Type 0 where
 
 -- what operators cost together, at most 1,000,000,000
 abbrev pub cost_of : Parts → CostKind → List ℕ → ℕ
-cost_of parts kind ops = min (sum_by (λ op. adjusted_cost parts op kind) ops) 1000000000
+cost_of parts kind ops = min (sum_by (λ op. adjusted_cost parts op kind) ops) LARGEST_ESTIMATE
 
 -- a value with the operators of a relaxed plan, and those of them that are applicable
 pub record HasPlan (parts : Parts) (kind : CostKind) (state : List ℕ) (value : ℕ) (ops preferred : List ℕ) : Type 0 where

@@ -3,6 +3,7 @@ ghost use Rattle.std.specs.Prelude.{◌≡◌, ◌≤◌, [], filter, length, ve
 ghost use Rattle.state_step.specs.Steps.{is_applicable as applicable};
 ghost use Rattle.h_ff.specs.RelaxedPlans.{cost_of};
 
+use lama_num::LARGEST_ESTIMATE;
 use sas_task::{CostKind, Task, all_hold};
 
 /// What operators cost together, at most 1,000,000,000.
@@ -13,7 +14,7 @@ pub fn cost(task: &Task, kind: CostKind, ops: &[u32]) -> u32
     for op in ops {
         sum = sum
             .saturating_add(task.adjusted_cost(*op, kind))
-            .min(1_000_000_000);
+            .min(LARGEST_ESTIMATE);
     }
     sum
 }

@@ -10,10 +10,9 @@ ghost use Rattle.lazy_search.specs.Shapes.{lists_by};
 ghost use Rattle.lazy_search.specs.Entries.{puts_in, Puts, Expands, operators_below, is_less};
 
 use crate::rows::Row;
-use lama_num::is_below;
 use crate::shape::Shape;
 use guide::Seen;
-use lama_num::NoMemory;
+use lama_num::{NoMemory, is_below};
 use open_lists::OpenLists;
 use sas_task::{CostKind, Task};
 use search_log::Setting;

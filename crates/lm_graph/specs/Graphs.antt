@@ -9,6 +9,7 @@ use Rattle.lm_graph.specs.declared.nodes.Added.TheVariants.{New, Known, Full}
 use Rattle.lm_graph.specs.Nodes.{is_set, sets_of, IsAbsent, AreDistinct, with_goal}
 use Rattle.lm_graph.specs.Orders.{stronger}
 use Rattle.lm_graph.specs.Rows.{kind_in, Raises}
+use Rattle.lm_graph.specs.declared.graph.TheConstants.{MOST_NODES}
 
 -- What contracts see of a graph: its nodes, and for each the edges that lead to it.
 pub record Content : Type 0 where
@@ -40,7 +41,7 @@ pub record IsPair (n i j : ℕ) : Type 0 where
 
 -- as many nodes as a graph may have
 abbrev pub most_nodes : ℕ
-most_nodes = 65536
+most_nodes = MOST_NODES
 
 -- What holds of every graph: each node is a set of facts, no set is two nodes, and orders stand between different nodes.
 pub record IsGraph (graph : Content) : Type 0 where

@@ -7,6 +7,7 @@ ghost use Rattle.lm_graph.specs.Marks.{is_seen, AreWithin};
 ghost use Rattle.lm_graph.specs.Paths.{Path};
 ghost use Rattle.lm_graph.specs.Rows.{kind_in, IsAscending};
 ghost use Rattle.lm_graph.specs.Turned.{kinds_from, TurnsRow, IsTurned};
+ghost use Rattle.lm_graph.specs.declared.graph.TheConstants.{MOST_NODES};
 
 use crate::orders::{Edge, Order};
 use crate::reach::{edges_at, flood};
@@ -59,7 +60,7 @@ fn turn_row(rows: &mut Vec<Row>, row: &[Edge], after: u32) -> Result<(), AllocEr
 
 // The orders of rows, by the node that they come from.
 fn turn(alloc: Global, rows: &[Row]) -> Result<Vec<Row>, AllocError>
-    requires few { length rows.now ≤ 65536 }
+    requires few { length rows.now ≤ MOST_NODES }
     requires within { AreWithin rows.now }
     ensures { IfOk result (λ turned. IsTurned rows.now turned.items) }
 {
@@ -72,7 +73,7 @@ fn turn(alloc: Global, rows: &[Row]) -> Result<Vec<Row>, AllocError>
 
 impl Successors {
     pub(crate) fn new(alloc: Global, rows: &[Row]) -> Result<Successors, AllocError>
-        requires few { length rows.now ≤ 65536 }
+        requires few { length rows.now ≤ MOST_NODES }
         requires within { AreWithin rows.now }
         ensures { IfOk result (λ turned. IsTurned rows.now turned) }
     {

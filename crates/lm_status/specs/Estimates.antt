@@ -10,6 +10,7 @@ use Rattle.lm_graph.specs.declared.orders.Order.TheVariants.{GreedyNecessary}
 use Rattle.lm_graph.specs.Orders.{is_strong}
 use Rattle.lm_graph.specs.Graphs.{Content, kind_of}
 use Rattle.lm_status.specs.Accepted.{holds_at}
+use Rattle.lama_num.specs.declared.estimates.TheConstants.{LARGEST_ESTIMATE}
 
 -- the numbers of the nodes
 abbrev pub nodes_of : Content → List ℕ
@@ -33,7 +34,7 @@ is_open graph accepted state node = not (accepted node) || is_again graph accept
 
 -- the sum of the weights of the open nodes, at most 1,000,000,000
 abbrev pub landmark_estimate : Content → List ℕ → (ℕ → Bool) → List ℕ → ℕ
-landmark_estimate graph weights accepted state = min (sum_by (slice_index weights) (filter (is_open graph accepted state) (nodes_of graph))) 1000000000
+landmark_estimate graph weights accepted state = min (sum_by (slice_index weights) (filter (is_open graph accepted state) (nodes_of graph))) LARGEST_ESTIMATE
 
 -- a cost by a kind of cost
 abbrev pub adjusted : Parts → CostKind → ℕ → ℕ

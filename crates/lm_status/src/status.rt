@@ -13,6 +13,8 @@ ghost use Rattle.lm_status.specs.Preferred.{is_next as next_at, is_wanted as wan
 ghost use Rattle.lm_status.specs.Preferred.{leads_on as op_leads_on, landmark_preferred};
 ghost use Rattle.lm_status.specs.Rows.{words_of, StandsFor};
 ghost use Rattle.lm_status.specs.Statuses.{IsStatusOf};
+ghost use Rattle.lama_num.specs.declared.estimates.TheConstants.{LARGEST_ESTIMATE};
+ghost use Rattle.lm_graph.specs.declared.graph.TheConstants.{MOST_NODES};
 
 use crate::making::{Charts, put_weights};
 use bit_rows::{clear, has, put, words_for};
@@ -70,7 +72,7 @@ fn all_hold(state: &[u32], facts: &[Fact]) -> bool
 
 /// A sum of weights, at most 1,000,000,000.
 fn add_capped(sum: u64, weight: u64) -> u64
-    ensures { result ≡ min (sum + weight) 1000000000 }
+    ensures { result ≡ min (sum + weight) LARGEST_ESTIMATE }
 {
     sum.saturating_add(weight).min(u64::from(LARGEST_ESTIMATE))
 }
@@ -129,7 +131,7 @@ impl Status {
     /// How many nodes there are.
     fn count(&self) -> usize
         ensures count { result ≡ length self.now.graph.nodes }
-        ensures few { result ≤ 65536 }
+        ensures few { result ≤ MOST_NODES }
     {
         self.graph.nodes().len()
     }

@@ -136,7 +136,12 @@ impl PhaseGuide {
     /// estimates are by the same kind of cost the tables of the relaxation; nothing else is kept.
     ///
     /// After want of memory nothing is said of the guide.
-    pub fn switch_to_phase(&mut self, alloc: Global, task: &Task, phase: &Phase) -> Result<(), NoMemory>
+    pub fn switch_to_phase(
+        &mut self,
+        alloc: Global,
+        task: &Task,
+        phase: &Phase,
+    ) -> Result<(), NoMemory>
         requires phase { IsPhase phase.now }
         requires task { IsFor self.old task.now }
         ensures phase { OnOk result (self.new.phase ≡ phase.now) }

@@ -8,6 +8,7 @@ use Rattle.plan_text.specs.declared.reading.PlanLines.{PlanLines}
 use Rattle.plan_check.specs.Choices.{IsChoice, IsBefore}
 use Rattle.plan_check.specs.declared.verdicts.Verdict.{Verdict}
 use Rattle.plan_check.specs.declared.verdicts.Verdict.TheVariants.{Good, Bad}
+use Rattle.plan_text.specs.declared.reading.TheConstants.{MOST_PLAN_BYTES}
 
 -- The bytes are the text of a plan: its operators are a choice for the names, they are operators of the task and lead to the goal, the cost
 -- and its kind are told as they are, and the cost is below the bound. No choice for the names that is a plan of that cost comes before it.
@@ -29,5 +30,5 @@ IsJudged parts bytes bound (Bad fault) = Unit {0}
 
 -- no more steps than the bytes of a plan file
 abbrev pub HasFewSteps : Verdict → Type 0
-HasFewSteps (Good ops cost) = length ops ≤ 67108864
+HasFewSteps (Good ops cost) = length ops ≤ MOST_PLAN_BYTES
 HasFewSteps (Bad fault) = Unit {0}

@@ -13,6 +13,7 @@ use Rattle.plan_check.specs.declared.refusals.Refusal.{Refusal}
 use Rattle.plan_check.specs.declared.verdicts.PlanFault.{PlanFault}
 use Rattle.plan_check.specs.declared.verdicts.PlanFault.TheVariants.{NoOperator, NotApplicable, TooMany}
 use Rattle.plan_check.specs.declared.tracing.Link.{Link}
+use Rattle.plan_check.specs.declared.widening.TheConstants.{MOST_TOGETHER, MOST_PAIRS}
 
 abbrev pub words_of : List (Vec ℕ Global) → List (List ℕ)
 words_of vectors = map (λ (v : Vec ℕ Global). v.items) vectors
@@ -70,7 +71,7 @@ pub record EndsAt (parts : Parts) (links : List Link) (steps place : ℕ) (ops s
 pub record IsGrown (parts : Parts) (layout : Places) (names : List (List ℕ)) (links : List Link) (first count : ℕ) (pairs : List (List ℕ)) : Type 0 where
   pub layer : IsLayer parts layout links first count pairs (ends parts (take count names))
   pub fits : first + length pairs ≡ length links
-  pub few : length pairs ≤ 65536
+  pub few : length pairs ≤ MOST_PAIRS
 
 -- Pairs and links stand for the ends of the choices of so many names.
 pub record IsAfter (parts : Parts) (layout : Places) (names : List (List ℕ)) (links : List Link) (first count : ℕ) (pairs : List (List ℕ)) : Type 0 where
@@ -91,7 +92,7 @@ pub record IsAlone (parts : Parts) (names : List (List ℕ)) (links : List Link)
 abbrev pub told_fault : Parts → List ℕ → ℕ → Bool → ℕ → ℕ → Option PlanFault
 told_fault parts name step room pairs together =
     if room && nat_eq pairs 0 then Some (if list_any (has_name name) parts.operators then NotApplicable step else NoOperator step) else
-    if not room || nat_lt 67108864 together then Some (TooMany step) else None
+    if not room || nat_lt MOST_TOGETHER together then Some (TooMany step) else None
 
 -- where it isn't memory that was wanting, the fault of the first step with which something is wrong
 abbrev pub IsFirstFault : Parts → List (List ℕ) → Refusal → Type 0

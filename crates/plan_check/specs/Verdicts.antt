@@ -15,6 +15,7 @@ use Rattle.plan_check.specs.declared.verdicts.PlanFault.{PlanFault}
 use Rattle.plan_check.specs.declared.verdicts.PlanFault.TheVariants.{Text, NoOperator, NotApplicable, TooMany, NoGoal, WrongKind, WrongCost, NotCheaper}
 use Rattle.plan_check.specs.declared.verdicts.Verdict.{Verdict}
 use Rattle.plan_check.specs.declared.verdicts.Verdict.TheVariants.{Good, Bad}
+use Rattle.plan_check.specs.declared.widening.TheConstants.{MOST_TOGETHER, MOST_PAIRS}
 
 -- the state after operators, each applicable in its turn
 abbrev pub state_by : Parts → List ℕ → List ℕ → List ℕ
@@ -55,7 +56,7 @@ has_operator parts names place = option_map_or (λ name. list_any (has_name name
 
 -- more than 65,536 pairs, or more than 67,108,864 together
 abbrev pub are_many : ℕ → ℕ → Bool
-are_many pairs together = nat_lt 65536 pairs || nat_lt 67108864 together
+are_many pairs together = nat_lt MOST_PAIRS pairs || nat_lt MOST_TOGETHER together
 
 -- what is wrong with a step, the one after so many
 abbrev pub fault_after : Parts → List (List ℕ) → ℕ → Option PlanFault

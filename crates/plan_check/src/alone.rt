@@ -2,6 +2,7 @@
 ghost use Rattle.std.specs.Prelude.{◌≡◌, ◌≤◌, [], length, IfOk, IfErr};
 ghost use Rattle.plan_check.specs.Layers.{IsAlone, IsFirstFault};
 ghost use Rattle.plan_check.specs.Walking.{IsSetup, IsWalker};
+ghost use Rattle.plan_text.specs.declared.reading.TheConstants.{MOST_PLAN_BYTES};
 
 use crate::refusals::Refusal;
 use crate::setup::Setup;
@@ -19,7 +20,7 @@ pub fn go_alone(
 ) -> Result<u64, Refusal>
     requires made { IsSetup setup.now }
     requires ready { IsWalker walker.old setup.now.task.now }
-    requires few { length names.now ≤ 67108864 }
+    requires few { length names.now ≤ MOST_PLAN_BYTES }
     requires none { links.old.items ≡ [] }
     ensures ready { IsWalker walker.new setup.now.task.now }
     ensures few { length links.new.items ≤ length names.now }

@@ -3,6 +3,7 @@ ghost use Rattle.std.specs.Prelude.{◌≡◌, ◌-◌, ◌≤◌, [], length, o
 ghost use Rattle.plan_check.specs.Layers.{IsAfter, IsFirstFault};
 ghost use Rattle.plan_check.specs.Verdicts.{first_fault, first_plan, least_cost};
 ghost use Rattle.plan_check.specs.Walking.{IsSetup, IsWalker};
+ghost use Rattle.plan_text.specs.declared.reading.TheConstants.{MOST_PLAN_BYTES};
 
 use crate::alone::go_alone;
 use crate::layers::Layer;
@@ -36,7 +37,7 @@ fn follow_by_layers(
 ) -> Result<Last, Refusal>
     requires made { IsSetup setup.now }
     requires ready { IsWalker walker.old setup.now.task.now }
-    requires few { length names.now ≤ 67108864 }
+    requires few { length names.now ≤ MOST_PLAN_BYTES }
     requires done { length links.old.items ≤ length names.now }
     requires start { let done = length links.old.items in
         IsAfter setup.now.task.now setup.now.layout names.now links.old.items (done - 1) done
@@ -69,7 +70,7 @@ fn follow_names(
 ) -> Result<Last, Refusal>
     requires made { IsSetup setup.now }
     requires ready { IsWalker walker.old setup.now.task.now }
-    requires few { length names.now ≤ 67108864 }
+    requires few { length names.now ≤ MOST_PLAN_BYTES }
     requires none { links.old.items ≡ [] }
     ensures ready { IsWalker walker.new setup.now.task.now }
     ensures end { IfOk result (λ last. IsAfter setup.now.task.now setup.now.layout names.now
@@ -123,7 +124,7 @@ fn choose_by(
 ) -> Result<Chosen, Refusal>
     requires made { IsSetup setup.now }
     requires ready { IsWalker walker.old setup.now.task.now }
-    requires few { length names.now ≤ 67108864 }
+    requires few { length names.now ≤ MOST_PLAN_BYTES }
     ensures no_fault { OnOk result
         (first_fault setup.now.task.now names.now (length names.now) ≡ None) }
     ensures least { IfOk result (λ chosen.
@@ -140,7 +141,7 @@ fn choose_by(
 /// The same, with a walker that is made for it.
 fn with_walker(setup: &Setup, names: &[Seq<u8>], wanted: u64) -> Result<Chosen, Refusal>
     requires made { IsSetup setup.now }
-    requires few { length names.now ≤ 67108864 }
+    requires few { length names.now ≤ MOST_PLAN_BYTES }
     ensures no_fault { OnOk result
         (first_fault setup.now.task.now names.now (length names.now) ≡ None) }
     ensures least { IfOk result (λ chosen.
@@ -155,7 +156,7 @@ fn with_walker(setup: &Setup, names: &[Seq<u8>], wanted: u64) -> Result<Chosen, 
 
 /// What the choices of operators for names lead to, with what is made for the task.
 pub fn choose(alloc: Global, task: &Task, names: &[Seq<u8>], wanted: u64) -> Result<Chosen, Refusal>
-    requires { length names.now ≤ 67108864 }
+    requires { length names.now ≤ MOST_PLAN_BYTES }
     ensures no_fault { OnOk result (first_fault task.now names.now (length names.now) ≡ None) }
     ensures least { IfOk result (λ chosen. chosen.least ≡ least_cost task.now names.now) }
     ensures plan { IfOk result (λ chosen.

@@ -6,6 +6,7 @@ ghost use Rattle.plan_check.specs.GoodPlans.{IsJudged, HasFewSteps};
 ghost use Rattle.plan_check.specs.Refusals.{fault_of};
 ghost use Rattle.plan_check.specs.Verdicts.{as_text, compared, plan_in as the_plan_in};
 ghost use Rattle.plan_check.specs.Verdicts.{plan_of as the_plan, verdict_of};
+ghost use Rattle.plan_text.specs.declared.reading.TheConstants.{MOST_PLAN_BYTES};
 
 use crate::choosing::{Chosen, choose};
 use crate::refusals::Refusal;
@@ -24,7 +25,7 @@ struct Plan {
 
 fn read(alloc: Global, bytes: &[u8]) -> Result<PlanLines, Refusal>
     ensures lines { Gives fault_of (λ lines. lines) result (as_text (plan_lines_of bytes.now)) }
-    ensures few { IfOk result (λ lines. length lines.names ≤ 67108864) }
+    ensures few { IfOk result (λ lines. length lines.names ≤ MOST_PLAN_BYTES) }
 {
     match lines(alloc, bytes) {
         Ok(lines) => Ok(lines),
@@ -69,10 +70,10 @@ fn plan_in(
     lines: &PlanLines,
     bound: Option<u64>,
 ) -> Result<Plan, Refusal>
-    requires { length lines.now.names ≤ 67108864 }
+    requires { length lines.now.names ≤ MOST_PLAN_BYTES }
     ensures plan { Gives fault_of (λ plan. (plan.ops.items, plan.cost)) result
         (the_plan_in task.now bound lines.now) }
-    ensures few { IfOk result (λ plan. length plan.ops.items ≤ 67108864) }
+    ensures few { IfOk result (λ plan. length plan.ops.items ≤ MOST_PLAN_BYTES) }
 {
     let chosen = choose(alloc, task, &lines.names, lines.cost)?;
     let ops = compare(task.is_unit_cost(), chosen, bound, lines)?;
@@ -84,7 +85,7 @@ fn plan_in(
 fn plan_of(alloc: Global, task: &Task, bytes: &[u8], bound: Option<u64>) -> Result<Plan, Refusal>
     ensures plan { Gives fault_of (λ plan. (plan.ops.items, plan.cost)) result
         (the_plan task.now bound bytes.now) }
-    ensures few { IfOk result (λ plan. length plan.ops.items ≤ 67108864) }
+    ensures few { IfOk result (λ plan. length plan.ops.items ≤ MOST_PLAN_BYTES) }
 {
     let lines = read(alloc, bytes)?;
     plan_in(alloc, task, &lines, bound)

@@ -3,6 +3,7 @@ ghost use Rattle.std.specs.Prelude.{◌≡◌, ◌≤◌, length, IfOk};
 ghost use Rattle.std.specs.List.{list_any};
 ghost use Rattle.plan_check.specs.Names.{IsIndexOf};
 ghost use Rattle.plan_check.specs.Choices.{has_name};
+ghost use Rattle.sas_task.specs.declared.limits.TheConstants.{MOST_OPERATORS};
 
 use lama_num::NoMemory;
 use sas_task::Operator;
@@ -20,7 +21,7 @@ pub struct ByName<'a> {
 
 impl<'a> ByName<'a> {
     pub fn new(alloc: Global, operators: &'a [Operator]) -> Result<ByName<'a>, NoMemory>
-        requires { length operators.now ≤ 4194304 }
+        requires { length operators.now ≤ MOST_OPERATORS }
         ensures { IfOk result (λ by_name. IsIndexOf by_name operators.now) }
     {
         let mut first = HashMap::new(alloc);

@@ -11,6 +11,8 @@ ghost use Rattle.plan_check.specs.Verdicts.{ends, pairs_after, first_fault};
 ghost use Rattle.plan_check.specs.Layers.{pair_words, longer, one_each, LeadOn, IsLayer, IsGrowing};
 ghost use Rattle.plan_check.specs.Layers.{IsGrown, IsAfter, IsFirstFault, EndsAt, told_fault};
 ghost use Rattle.plan_check.specs.Walking.{IsSetup, IsWalker};
+ghost use Rattle.plan_check.specs.declared.widening.TheConstants.{MOST_PAIRS, MOST_TOGETHER};
+ghost use Rattle.plan_text.specs.declared.reading.TheConstants.{MOST_PLAN_BYTES};
 
 use crate::layers::Layer;
 use crate::refusals::Refusal;
@@ -23,10 +25,10 @@ use packed_state::Layout;
 use std::alloc::{AllocError, Global};
 
 /// The most pairs of a layer.
-const MOST_PAIRS: usize = 65_536;
+pub const MOST_PAIRS: usize = 65_536;
 
 /// The most pairs of all layers together.
-const MOST_TOGETHER: usize = 67_108_864;
+pub const MOST_TOGETHER: usize = 67_108_864;
 
 /// The layer after the last name, and where its links begin.
 #[derive(Drop)]
@@ -107,10 +109,10 @@ fn widen(
     requires low { cost < 2 ^ 63 }
     requires found { IsTrue (list_all
         (is_applicable setup.now.task.now walker.old.here.items) walker.old.candidates.items) }
-    requires few { length layer.old ≤ 65536 }
+    requires few { length layer.old ≤ MOST_PAIRS }
     ensures ready { IsWalker walker.new setup.now.task.now }
     ensures kept { OnOk result (LeadOn links.old.items links.new.items) }
-    ensures few { IfOk result (λ room. IsTrue room → length layer.new ≤ 65536) }
+    ensures few { IfOk result (λ room. IsTrue room → length layer.new ≤ MOST_PAIRS) }
     ensures wider { IfOk result (λ room.
         (choice : List ℕ) (done : List (List ℕ)) (first steps : ℕ) →
         EndsAt setup.now.task.now links.old.items steps from choice walker.old.here.items cost →
@@ -119,7 +121,7 @@ fn widen(
         MatchBool room
         (IsGrowing setup.now.task.now setup.now.layout links.new.items first (suc steps) layer.new
         (done ++ longer choice walker.old.candidates.items))
-        (65536 < length (one_each setup.now.task.now
+        (MOST_PAIRS < length (one_each setup.now.task.now
         (done ++ longer choice walker.old.candidates.items)))) }
 {
     for i in 0..walker.candidates.len() {
@@ -145,7 +147,7 @@ fn fill(
     requires made { IsSetup setup.now }
     requires ready { IsWalker walker.old setup.now.task.now }
     requires count { count < length names.now }
-    requires few { length names.now ≤ 67108864 }
+    requires few { length names.now ≤ MOST_PLAN_BYTES }
     requires low { last.now.first + length last.now.layer < 2 ^ 32 }
     requires last { IsLayer setup.now.task.now setup.now.layout links.old.items last.now.first count
         last.now.layer (ends setup.now.task.now (take count names.now)) }
@@ -155,7 +157,7 @@ fn fill(
         (IsGrown setup.now.task.now setup.now.layout names.now links.new.items
         (length links.old.items)
         (suc count) layer.new)
-        (65536 < pairs_after setup.now.task.now names.now (suc count))) }
+        (MOST_PAIRS < pairs_after setup.now.task.now names.now (suc count))) }
 {
     for place in 0..last.layer.len() {
         let from = (last.first + place) as u32;
@@ -202,13 +204,13 @@ pub fn next_layer(
     requires made { IsSetup setup.now }
     requires ready { IsWalker walker.old setup.now.task.now }
     requires count { count < length names.now }
-    requires few { length names.now ≤ 67108864 }
-    requires together { length links.old.items ≤ 67108864 }
+    requires few { length names.now ≤ MOST_PLAN_BYTES }
+    requires together { length links.old.items ≤ MOST_TOGETHER }
     requires last { IsAfter setup.now.task.now setup.now.layout names.now links.old.items
         last.now.first count last.now.layer }
     requires no_fault { first_fault setup.now.task.now names.now count ≡ None }
     ensures ready { IsWalker walker.new setup.now.task.now }
-    ensures together { OnOk result (length links.new.items ≤ 67108864) }
+    ensures together { OnOk result (length links.new.items ≤ MOST_TOGETHER) }
     ensures next { IfOk result (λ next. IsAfter setup.now.task.now setup.now.layout names.now
         links.new.items next.first (suc count) next.layer) }
     ensures no_fault { OnOk result (first_fault setup.now.task.now names.now (suc count) ≡ None) }

@@ -42,6 +42,7 @@ pub record LeftByPlacing (draft target text : List ℕ) (before after : Files) :
 pub record LeftBySealing (base : List ℕ) (many : Bool) (task : Parts) (kept : List Kept) (before after : Files) : Type 0 where
   pub family : (k : ℕ) → k ≤ 9999 → (get after (family_name base k) ≡ get before (family_name base k)) ⊎ (get after (family_name base k) ≡ text_at many task kept k)
   pub outside : SameOutside base before after
+
 -- clearing
 
 held_or_gone_by : (b : Bool) (before : Option (List ℕ)) → (cond b None before ≡ before) ⊎ (cond b None before ≡ None)

@@ -10,6 +10,7 @@ use Rattle.lama_num.proofs.NameLaws.{numbered_same, numbered≢base, numbered≢
 -- all names but those of the family hold what they held
 abbrev pub SameBeside : List ℕ → Files → Files → Type 0
 SameBeside base before after = (name : List ℕ) → IsNoPlan base name → get after name ≡ get before name
+
 pub family_zero : (base : List ℕ) → family_name base 0 ≡ base
 unfolding family_name
 family_zero base = refl

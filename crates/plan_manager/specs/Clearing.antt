@@ -5,10 +5,11 @@ use Rattle.lama_host.specs.Folder.{Files, last_of}
 use Rattle.lama_num.specs.Names.{part_name}
 use Rattle.plan_manager.specs.Family.{family_name}
 use Rattle.lama_host.specs.Steps.{Each}
+use Rattle.lama_num.specs.declared.names.TheConstants.{MOST_PLANS}
 
 -- one name of the family is taken away
 abbrev pub TakesPlan : List ℕ → Files → Files → Type 0
-TakesPlan base before after = (k : ℕ) × (k ≤ 9999) × (after ≡ remove before (family_name base k))
+TakesPlan base before after = (k : ℕ) × (k ≤ MOST_PLANS) × (after ≡ remove before (family_name base k))
 
 -- one name of the family, or base.part, is taken away
 abbrev pub TakesOne : List ℕ → Files → Files → Type 0
@@ -16,7 +17,7 @@ TakesOne base before after = TakesPlan base before after ⊎ (after ≡ remove b
 
 -- no name of the family is there
 abbrev pub HasNoPlan : List ℕ → Files → Type 0
-HasNoPlan base files = (k : ℕ) → k ≤ 9999 → get files (family_name base k) ≡ None
+HasNoPlan base files = (k : ℕ) → k ≤ MOST_PLANS → get files (family_name base k) ≡ None
 
 -- nor is base.part
 pub record IsCleared (base : List ℕ) (files : Files) : Type 0 where

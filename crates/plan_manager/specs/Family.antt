@@ -5,6 +5,7 @@ use Rattle.lama_host.specs.Folder.{Files}
 use Rattle.lama_num.specs.Names.{part_name, numbered_name}
 use Rattle.plan_manager.specs.declared.families.FamilyFile.{FamilyFile}
 use Rattle.plan_manager.specs.declared.families.FamilyFile.TheVariants.{Base, Numbered}
+use Rattle.lama_num.specs.declared.names.TheConstants.{MOST_PLANS}
 
 -- the names of the family: number 0 is the base itself, and number n is base.n, up to 9,999
 unfoldable pub family_name : List ℕ → ℕ → List ℕ
@@ -18,7 +19,7 @@ file_name (Numbered name) = name
 
 -- a name that isn't in the family
 abbrev pub IsNoPlan : List ℕ → List ℕ → Type 0
-IsNoPlan base name = (k : ℕ) → k ≤ 9999 → name ≢ family_name base k
+IsNoPlan base name = (k : ℕ) → k ≤ MOST_PLANS → name ≢ family_name base k
 
 -- all names but those of the family and base.part hold what they held
 abbrev pub SameOutside : List ℕ → Files → Files → Type 0

@@ -9,6 +9,7 @@ use Rattle.plan_text.specs.PlanText.{plan_text}
 use Rattle.plan_manager.specs.Family.{family_name}
 use Rattle.plan_manager.specs.Keeping.{IsDraft, IsPlaced, Places}
 use Rattle.lama_host.specs.Steps.{Each}
+use Rattle.lama_num.specs.declared.names.TheConstants.{MOST_PLANS}
 
 -- the plan of a name of the family: with many the n-th plan is that of base.n, without the only one is that of the base
 unfoldable pub plan_at : Bool → List Kept → ℕ → Option Kept
@@ -23,7 +24,7 @@ text_at many task kept k = option_map (λ plan. plan_text task plan.ops) (plan_a
 
 -- Each name of the family holds the text of its plan, or isn't there; nor is base.part.
 pub record HoldsPlans (files : Files) (base : List ℕ) (many : Bool) (task : Parts) (kept : List Kept) : Type 0 where
-  pub plans : (k : ℕ) → k ≤ 9999 → get files (family_name base k) ≡ text_at many task kept k
+  pub plans : (k : ℕ) → k ≤ MOST_PLANS → get files (family_name base k) ≡ text_at many task kept k
   pub part : get files (part_name base) ≡ None
 
 -- each plan has fewer than 2^32 steps, so that its text ends below 2^63
@@ -34,8 +35,8 @@ HaveFewSteps kept = (i : ℕ) (plan : Kept) → slice_get kept i ≡ Some plan �
 -- else, gets its plan's text; a name without a plan is taken away; or base.part is.
 pub data SealStep (base : List ℕ) (many : Bool) (task : Parts) (kept : List Kept) (before after : Files) : Type 0 where
   Draft : (k : ℕ) (text : List ℕ) → text_at many task kept k ≡ Some text → IsDraft (part_name base) text before after → SealStep base many task kept before after
-  Place : (k : ℕ) (text : List ℕ) → k ≤ 9999 → text_at many task kept k ≡ Some text → get before (family_name base k) ≢ Some text → IsPlaced (part_name base) (family_name base k) text before after → SealStep base many task kept before after
-  Take : (k : ℕ) → k ≤ 9999 → text_at many task kept k ≡ None → after ≡ remove before (family_name base k) → SealStep base many task kept before after
+  Place : (k : ℕ) (text : List ℕ) → k ≤ MOST_PLANS → text_at many task kept k ≡ Some text → get before (family_name base k) ≢ Some text → IsPlaced (part_name base) (family_name base k) text before after → SealStep base many task kept before after
+  Take : (k : ℕ) → k ≤ MOST_PLANS → text_at many task kept k ≡ None → after ≡ remove before (family_name base k) → SealStep base many task kept before after
   TakePart : after ≡ remove before (part_name base) → SealStep base many task kept before after
 
 -- Such steps; where no call failed, the folder holds just the plans in the end.

@@ -5,18 +5,19 @@ ghost use Rattle.lama_host.specs.Folder.{Keeps, Changes, Once};
 ghost use Rattle.lama_num.specs.Names.{IsEntryNumber, child_name};
 ghost use Rattle.plan_manager.specs.Clearing.{Clears, ClearsFamily, ClearsBetween};
 ghost use Rattle.plan_manager.specs.Family.{family_name};
+ghost use Rattle.lama_num.specs.declared.names.TheConstants.{MOST_PLANS};
 
 use crate::families::FamilyFile;
 use lama_host::{Failed, Folder};
-use lama_num::NameBuf;
+use lama_num::{MOST_PLANS, NameBuf};
 
 /// The numbers of the family end here.
-pub(crate) const END: u32 = 10_000;
+pub(crate) const END: u32 = MOST_PLANS + 1;
 
 /// Takes one name of the family away, if it is there.
 fn remove_name<F: Folder>(folder: &mut F, base: &NameBuf, number: u32) -> Result<(), Failed>
     requires short { length base.now ≤ 230 }
-    requires number { number ≤ 9999 }
+    requires number { number ≤ MOST_PLANS }
     ensures keeps { Keeps (F.told folder.old) (F.told folder.new) result }
     ensures changes { Changes (F.told folder.old) (F.told folder.new)
         (Once result (λ files. remove files (family_name base.now number))) }
@@ -32,7 +33,7 @@ pub(crate) fn remove_names<F: Folder>(
     end: u32,
 ) -> Result<(), Failed>
     requires short { length base.now ≤ 230 }
-    requires end { end ≤ 10000 }
+    requires end { end ≤ MOST_PLANS + 1 }
     ensures keeps { Keeps (F.told folder.old) (F.told folder.new) result }
     ensures changes { Changes (F.told folder.old) (F.told folder.new)
         (ClearsBetween result base.now from end) }

@@ -1,6 +1,7 @@
 // The files of a family.
 ghost use Rattle.std.specs.Prelude.{◌≡◌, ◌≤◌, length};
 ghost use Rattle.plan_manager.specs.Family.{family_name, file_name};
+ghost use Rattle.lama_num.specs.declared.names.TheConstants.{MOST_PLANS};
 
 use lama_num::NameBuf;
 
@@ -15,7 +16,7 @@ impl<'a> FamilyFile<'a> {
     /// The file of a number: 0 is the base itself, and n is `base.n`.
     pub fn new(base: &'a NameBuf, number: u32) -> FamilyFile<'a>
         requires short { length base.now ≤ 230 }
-        requires number { number ≤ 9999 }
+        requires number { number ≤ MOST_PLANS }
         ensures { file_name result ≡ family_name base.now number }
     {
         if number == 0 {

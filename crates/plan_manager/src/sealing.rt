@@ -5,6 +5,7 @@ ghost use Rattle.lama_num.specs.Names.{part_name};
 ghost use Rattle.plan_text.specs.PlanText.{plan_text};
 ghost use Rattle.plan_manager.specs.Family.{family_name};
 ghost use Rattle.plan_manager.specs.Sealing.{HaveFewSteps, Seals, Rewrites, SealsBetween};
+ghost use Rattle.lama_num.specs.declared.names.TheConstants.{MOST_PLANS};
 
 use crate::clearing::{END, remove_names};
 use crate::comparing::holds;
@@ -49,7 +50,7 @@ fn rewrite_name<F: Folder>(
 ) -> Result<(), Failed>
     requires idle { (F.told folder.old).busy ≡ [] }
     requires short { length base.now ≤ 200 }
-    requires number { number ≤ 9999 }
+    requires number { number ≤ MOST_PLANS }
     requires few { length ops.now < 2 ^ 32 }
     ensures keeps { Keeps (F.told folder.old) (F.told folder.new) result }
     ensures changes { Changes (F.told folder.old) (F.told folder.new)
@@ -78,12 +79,12 @@ fn seal_family<F: Folder>(
 ) -> Result<(), Failed>
     requires idle { (F.told folder.old).busy ≡ [] }
     requires short { length base.now ≤ 200 }
-    requires few { length kept.now ≤ 9999 }
+    requires few { length kept.now ≤ MOST_PLANS }
     requires single { many ≡ false → length kept.now ≤ 1 }
     requires steps { HaveFewSteps kept.now }
     ensures keeps { Keeps (F.told folder.old) (F.told folder.new) result }
     ensures changes { Changes (F.told folder.old) (F.told folder.new)
-        (SealsBetween result base.now many task.now kept.now 0 10000) }
+        (SealsBetween result base.now many task.now kept.now 0 (MOST_PLANS + 1)) }
 {
     let first = first_number(many);
     remove_names(folder, base, 0, first)?;
@@ -105,7 +106,7 @@ pub fn seal<F: Folder>(
 ) -> Result<(), Failed>
     requires idle { (F.told folder.old).busy ≡ [] }
     requires short { length base.now ≤ 200 }
-    requires few { length kept.now ≤ 9999 }
+    requires few { length kept.now ≤ MOST_PLANS }
     requires single { many ≡ false → length kept.now ≤ 1 }
     requires steps { HaveFewSteps kept.now }
     ensures keeps { Keeps (F.told folder.old) (F.told folder.new) result }

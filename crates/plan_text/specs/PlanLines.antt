@@ -10,6 +10,7 @@ use Rattle.plan_text.specs.declared.faults.PlanTextFault.{PlanTextFault}
 use Rattle.plan_text.specs.declared.faults.PlanTextFault.TheVariants.{CutShort, BadLine, BadCost, TooLong}
 use Rattle.plan_text.specs.declared.faults.PlanTextError.{PlanTextError}
 use Rattle.plan_text.specs.declared.faults.PlanTextError.TheVariants.{Bad, NoMemory}
+use Rattle.plan_text.specs.declared.reading.TheConstants.{MOST_PLAN_BYTES}
 
 abbrev pub fault_of : PlanTextError → Option PlanTextFault
 fault_of (Bad fault) = Some fault
@@ -99,4 +100,4 @@ is_finished bytes = nat_eq (slice_index bytes (length bytes - 1)) 10
 
 -- what a text gives: the names of its steps, the number that it tells as their cost, and the kind of that; or the first fault
 unfoldable pub plan_lines_of : List ℕ → Result PlanLines PlanTextFault
-plan_lines_of bytes = if nat_lt 67108864 (length bytes) then Err TooLong else plan_lines (is_finished bytes) (lines_of bytes)
+plan_lines_of bytes = if nat_lt MOST_PLAN_BYTES (length bytes) then Err TooLong else plan_lines (is_finished bytes) (lines_of bytes)

@@ -8,6 +8,7 @@ use Rattle.sas_task.specs.Costs.{is_unit_cost}
 use Rattle.sas_task.specs.Runs.{cost_of}
 use Rattle.plan_text.specs.PlanText.{name_at, plan_text}
 use Rattle.plan_text.specs.PlanLines.{plan_lines_of}
+use Rattle.plan_text.specs.declared.reading.TheConstants.{MOST_PLAN_BYTES}
 
 -- a name that a line can hold: it has no line feed, and nothing at its ends that would be dropped
 abbrev pub fits_line : List ℕ → Bool
@@ -16,5 +17,5 @@ fits_line name = list_all (λ b. not (nat_eq b 10)) name && bytes_eq (trimmed na
 -- Where lines can hold the names, and the text is within the limit: the text of operators gives their names, their cost, and the kind of cost.
 abbrev pub IsReadBack : Parts → List ℕ → Type 0
 IsReadBack parts ops =
-    IsTrue (list_all (λ op. fits_line (name_at parts op)) ops) → length (plan_text parts ops) ≤ 67108864 → cost_of parts ops < 2 ^ 64 →
+    IsTrue (list_all (λ op. fits_line (name_at parts op)) ops) → length (plan_text parts ops) ≤ MOST_PLAN_BYTES → cost_of parts ops < 2 ^ 64 →
     plan_lines_of (plan_text parts ops) ≡ Ok (record { names = map (name_at parts) ops; cost = cost_of parts ops; unit = is_unit_cost parts })

@@ -12,5 +12,5 @@ mod writing;
 
 pub use faults::{PlanTextError, PlanTextFault};
 pub use law::written_is_read_back;
-pub use reading::{PlanLines, lines};
+pub use reading::{MOST_PLAN_BYTES, PlanLines, lines};
 pub use writing::write;

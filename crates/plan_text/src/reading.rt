@@ -8,6 +8,7 @@ ghost use Rattle.text_lines.specs.Lines.{lines_of};
 ghost use Rattle.plan_text.specs.PlanLines.{fault_of, is_step, names_in_front, only_empty};
 ghost use Rattle.plan_text.specs.PlanLines.{or_fault, no_cost as the_no_cost, ending, plan_lines};
 ghost use Rattle.plan_text.specs.PlanLines.{plan_lines_of, is_finished as finished_test};
+ghost use Rattle.plan_text.specs.declared.reading.TheConstants.{MOST_PLAN_BYTES};
 
 use crate::faults::{PlanTextError, PlanTextFault};
 use crate::forms::{cost_in, step_name};
@@ -16,7 +17,7 @@ use std::alloc::{AllocError, Global};
 use text_lines::Cursor;
 
 /// The most bytes of a text.
-const MOST_BYTES: usize = 67_108_864;
+pub const MOST_PLAN_BYTES: usize = 67_108_864;
 
 /// What the lines of a plan file tell: the names of the steps, the cost, and whether every operator
 /// is said to cost 1.
@@ -152,9 +153,9 @@ pub fn lines(alloc: Global, bytes: &[u8]) -> Result<PlanLines, PlanTextError>
     // What the text gives, or its first fault.
     ensures exact { Gives fault_of (λ lines. lines) result (plan_lines_of bytes.now) }
     // There are no more steps than a text may have bytes.
-    ensures few { IfOk result (λ lines. length lines.names ≤ 67108864) }
+    ensures few { IfOk result (λ lines. length lines.names ≤ MOST_PLAN_BYTES) }
 {
-    if bytes.len() > MOST_BYTES {
+    if bytes.len() > MOST_PLAN_BYTES {
         return Err(PlanTextError::Bad(PlanTextFault::TooLong));
     }
     read_lines(alloc, bytes)

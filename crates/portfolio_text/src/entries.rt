@@ -10,12 +10,11 @@ ghost use Rattle.portfolio_text.specs.PortfolioText.{bad as bad_line, refusal, s
 ghost use Rattle.portfolio_text.specs.PortfolioText.{search_by, alias_by, run_by, work_by};
 ghost use Rattle.portfolio_text.specs.PortfolioText.{entry_by, entry_of};
 
-use conf_text::AliasName;
 use crate::faults::{PortBad, PortError, PortKind};
 use crate::lines::{behind_word, first_word, without_blanks};
 use crate::portfolio::{HIGHEST_SHARE, PortEntry, Work};
 use crate::texts::Text;
-use conf_text::ConfError;
+use conf_text::{AliasName, ConfError};
 use lama_num::{Seq, read_decimal};
 use std::alloc::{AllocError, Global};
 

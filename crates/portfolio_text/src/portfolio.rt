@@ -1,7 +1,6 @@
 // What a portfolio is.
-use conf_text::AliasName;
 use crate::texts::Text;
-use conf_text::Config;
+use conf_text::{AliasName, Config};
 use lama_num::Seq;
 
 /// The most bytes of a portfolio's text.

@@ -8,10 +8,11 @@ use Rattle.sas_task.specs.declared.contents.Parts.{Parts}
 use Rattle.relaxed_task.specs.declared.relaxation.Lists.{Lists}
 use Rattle.relaxed_task.specs.Facts.{default_facts, distinct_facts}
 use Rattle.relaxed_task.specs.Numbers.{numbers_of, numbered_unaries, is_below, is_unary_below}
+use Rattle.sas_task.specs.declared.limits.TheConstants.{MOST_FACTS}
 
 -- all facts are among those that there are, which aren't too many
 pub record IsSound (lists : Lists) : Type 0 where
-  pub few : lists.facts ≤ 4194304
+  pub few : lists.facts ≤ MOST_FACTS
   pub unaries : IsTrue (list_all (is_unary_below lists.facts) lists.unaries)
   pub defaults : IsTrue (list_all (is_below lists.facts) lists.defaults)
   pub goals : IsTrue (list_all (is_below lists.facts) lists.goals)

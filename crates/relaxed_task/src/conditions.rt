@@ -5,6 +5,7 @@ ghost use Rattle.std.specs.List.{list_all};
 ghost use Rattle.relaxed_task.specs.Numbers.{number_by, distinct, is_below};
 ghost use Rattle.relaxed_task.specs.Making.{AreMarked, with_one, with_all};
 ghost use Rattle.relaxed_task.specs.Making.{have_numbers, all_numbers_by};
+ghost use Rattle.sas_task.specs.declared.limits.TheConstants.{MOST_FACTS};
 
 use lama_num::Seq;
 use sas_task::Fact;
@@ -40,7 +41,7 @@ fn add_facts(
     facts: &mut Vec<u32>,
     more: &[Fact],
 ) -> Result<(), AllocError>
-    requires few { length marks.old ≤ 4194304 }
+    requires few { length marks.old ≤ MOST_FACTS }
     requires numbers { IsTrue (have_numbers offsets.now (length marks.old) more.now) }
     requires marked { AreMarked marks.old facts.old.items }
     ensures facts { OnOk result
@@ -77,7 +78,7 @@ pub fn conditions(
     first: &[Fact],
     second: &[Fact],
 ) -> Result<Seq<u32>, AllocError>
-    requires few { length marks.old ≤ 4194304 }
+    requires few { length marks.old ≤ MOST_FACTS }
     requires first { IsTrue (have_numbers offsets.now (length marks.old) first.now) }
     requires second { IsTrue (have_numbers offsets.now (length marks.old) second.now) }
     requires clear { AreMarked marks.old [] }

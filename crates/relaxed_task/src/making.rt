@@ -12,6 +12,7 @@ ghost use Rattle.relaxed_task.specs.Relaxations.{IsOffsets, IsRelaxed};
 ghost use Rattle.relaxed_task.specs.Making.{AreMarked, have_numbers, effect_has_numbers};
 ghost use Rattle.relaxed_task.specs.Making.{operator_has_numbers, rule_has_numbers};
 ghost use Rattle.relaxed_task.specs.Making.{effect_by, rule_by, operators_by, defaults_by};
+ghost use Rattle.sas_task.specs.declared.limits.TheConstants.{MOST_FACTS};
 
 use crate::conditions::{conditions, number};
 use crate::relaxation::{Lists, Relaxed};
@@ -22,7 +23,7 @@ use std::alloc::{AllocError, Global};
 
 /// How many facts there are.
 fn count_facts(variables: &[Variable]) -> u32
-    requires { fact_count variables.now ≤ 4194304 }
+    requires { fact_count variables.now ≤ MOST_FACTS }
     ensures { result ≡ fact_count variables.now }
 {
     let mut count: usize = 0;
@@ -34,7 +35,7 @@ fn count_facts(variables: &[Variable]) -> u32
 
 /// Where the facts of each variable begin.
 fn make_offsets(alloc: Global, variables: &[Variable]) -> Result<Vec<u32>, AllocError>
-    requires { fact_count variables.now ≤ 4194304 }
+    requires { fact_count variables.now ≤ MOST_FACTS }
     ensures { IfOk result (λ offsets. IsOffsets variables.now offsets.items) }
 {
     let mut offsets = Vec::with_capacity(alloc, variables.len())?;
@@ -56,7 +57,7 @@ fn make_effect(
     pre: &[Fact],
     effect: &Effect,
 ) -> Result<Unary, AllocError>
-    requires few { length marks.old ≤ 4194304 }
+    requires few { length marks.old ≤ MOST_FACTS }
     requires pre { IsTrue (have_numbers offsets.now (length marks.old) pre.now) }
     requires effect { IsTrue (effect_has_numbers offsets.now (length marks.old) effect.now) }
     requires clear { AreMarked marks.old [] }
@@ -81,7 +82,7 @@ fn make_rule(
     marks: &mut [bool],
     rule: &Rule,
 ) -> Result<Unary, AllocError>
-    requires few { length marks.old ≤ 4194304 }
+    requires few { length marks.old ≤ MOST_FACTS }
     requires rule { IsTrue (rule_has_numbers offsets.now (length marks.old) rule.now) }
     requires clear { AreMarked marks.old [] }
     ensures unary { IfOk result (λ unary. unary ≡ rule_by offsets.now rule.now) }
@@ -107,7 +108,7 @@ fn add_effects(
     operator: &Operator,
     unaries: &mut Vec<Unary>,
 ) -> Result<(), AllocError>
-    requires few { length marks.old ≤ 4194304 }
+    requires few { length marks.old ≤ MOST_FACTS }
     requires operator { IsTrue (operator_has_numbers offsets.now (length marks.old) operator.now) }
     requires clear { AreMarked marks.old [] }
     ensures unaries { OnOk result (unaries.new.items ≡ unaries.old.items
@@ -131,7 +132,7 @@ fn add_operators(
     marks: &mut [bool],
     unaries: &mut Vec<Unary>,
 ) -> Result<(), AllocError>
-    requires few { length marks.old ≤ 4194304 }
+    requires few { length marks.old ≤ MOST_FACTS }
     requires operators { IsTrue
         (list_all (operator_has_numbers offsets.now (length marks.old)) task.now.operators) }
     requires clear { AreMarked marks.old [] }
@@ -155,7 +156,7 @@ fn add_rules(
     rules: &[Rule],
     unaries: &mut Vec<Unary>,
 ) -> Result<(), AllocError>
-    requires few { length marks.old ≤ 4194304 }
+    requires few { length marks.old ≤ MOST_FACTS }
     requires rules { IsTrue (list_all (rule_has_numbers offsets.now (length marks.old)) rules.now) }
     requires clear { AreMarked marks.old [] }
     ensures unaries { OnOk result

@@ -7,6 +7,7 @@ ghost use Rattle.sas_task.specs.declared.contents.CostKind.{CostKind as TheKind}
 ghost use Rattle.relaxed_task.specs.Numbers.{number_by, number_of, IsNumbered};
 ghost use Rattle.relaxed_task.specs.Numbers.{is_below, is_unary_below};
 ghost use Rattle.relaxed_task.specs.Relaxations.{IsSound, IsRelaxed};
+ghost use Rattle.sas_task.specs.declared.limits.TheConstants.{MOST_FACTS};
 
 use crate::unary::Unary;
 use lama_num::Seq;
@@ -67,7 +68,7 @@ impl Relaxed {
     /// How many facts there are: one for each value of each variable.
     pub fn facts(&self) -> u32
         ensures facts { result ≡ self.now.facts }
-        ensures few { result ≤ 4194304 }
+        ensures few { result ≤ MOST_FACTS }
     {
         self.lists.facts
     }

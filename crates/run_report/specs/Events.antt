@@ -18,6 +18,7 @@ use Rattle.run_report.specs.declared.report.Why.TheVariants as why
 use Rattle.run_report.specs.declared.report.Report.{Report}
 use Rattle.run_report.specs.Turns.{BegunTurn, part_of}
 use Rattle.run_report.specs.Tells.{Turns, all_begun, events_of}
+use Rattle.lama_num.specs.declared.names.TheConstants.{MOST_PLANS}
 
 -- the run came to its end, with no fault and nothing refused
 abbrev pub IsRunToEnd : Why → Type 0
@@ -64,6 +65,6 @@ pub record TellsEvents (setting : Setting) (report : Report) (turns : Turns) : T
   pub kept : kept_costs setting (events_of turns) ≡ map (λ (plan : Kept). plan.cost) report.kept
   pub over : report.why ≡ why.Finished → is_over_after setting (events_of turns) ≡ true
   pub ended : report.why ≢ why.Fault → turns.present ≡ None
-  pub full : report.why ≡ why.PlanLimit → length report.kept ≡ 9999
-  pub below : report.why ≡ why.Finished → length report.kept ≢ 9999
+  pub full : report.why ≡ why.PlanLimit → length report.kept ≡ MOST_PLANS
+  pub below : report.why ≡ why.Finished → length report.kept ≢ MOST_PLANS
   pub code : report.code ≡ code_of report.why report.kept report.ends

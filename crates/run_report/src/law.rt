@@ -32,6 +32,7 @@ ghost use Rattle.run_report.specs.Searches.{Run, Search, Standing, Went, Ends, E
 ghost use Rattle.run_report.specs.Searches.{after_plan, after_space};
 ghost use Rattle.run_report.specs.Complete.{IsComplete};
 ghost use Rattle.run_report.specs.Runs.{IsUnderWay, TellsRun};
+ghost use Rattle.lama_num.specs.declared.names.TheConstants.{MOST_PLANS};
 
 /// The turn of the next entry begins, and the core has its beginning.
 pub fn a_turn_begins()
@@ -113,7 +114,7 @@ pub fn a_run_is_told()
         IsUnderWay run core (between ended) report.kept report.candidates report.ends →
         run.setting.start ≡ report.start →
         is_over_after run.setting (events_of (between ended)) ≡ true →
-        report.why ≡ (if nat_eq (length report.kept) 9999 then why.PlanLimit else why.Finished) →
+        report.why ≡ (if nat_eq (length report.kept) MOST_PLANS then why.PlanLimit else why.Finished) →
         report.code ≡ code_by_events run.setting (events_of (between ended)) →
         TellsRun run report (between ended) }
     ensures fault { (run : Run) (core : CoreState) (turns : Turns) (report : TheReport) →

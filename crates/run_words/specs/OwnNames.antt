@@ -3,6 +3,7 @@ use Rattle.std.specs.Prelude.{ℕ, List, [], ◌∷◌, length, take, drop, Bool
 use Rattle.std.specs.Char.{is_ascii_digit}
 use Rattle.std.specs.Str.{bytes_eq}
 use Rattle.lama_num.specs.Decimals.{decimal_of}
+use Rattle.lama_num.specs.declared.names.TheConstants.{MOST_PLANS}
 
 -- the decimal of a number from 1 to 9,999, without leading zeros
 abbrev pub is_plan_number : List ℕ → Bool
@@ -10,7 +11,7 @@ is_plan_number digits = numbers (decimal_of digits)
   where
     numbers : Option ℕ → Bool
     numbers None = false
-    numbers (Some n) = nat_le 1 n && (nat_le n 9999 && bytes_eq digits (decimal n))
+    numbers (Some n) = nat_le 1 n && (nat_le n MOST_PLANS && bytes_eq digits (decimal n))
 
 abbrev pub begins_with_digit : List ℕ → Bool
 begins_with_digit [] = false

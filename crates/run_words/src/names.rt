@@ -8,7 +8,7 @@ ghost use Rattle.run_words.specs.OwnNames.{is_own_name as own_test};
 ghost use Rattle.run_words.specs.Requests.{is_file_name as name_test, is_own as own_if_given};
 
 use itoa::Buffer;
-use lama_num::read_decimal;
+use lama_num::{MOST_PLANS, read_decimal};
 
 fn has_no_nul(name: &[u8]) -> bool
     ensures { result ≡ list_all (λ b. not (nat_eq b 0)) name.now }
@@ -28,7 +28,7 @@ fn is_plan_number(digits: &[u8]) -> bool
 {
     match read_decimal(digits) {
         None => false,
-        Some(n) => 1 <= n && n <= 9999 && digits == Buffer::new().format(n).as_bytes(),
+        Some(n) => 1 <= n && n <= MOST_PLANS && digits == Buffer::new().format(n).as_bytes(),
     }
 }
 
