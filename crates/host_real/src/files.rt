@@ -27,7 +27,8 @@ pub enum Named {
     Nothing,
     File,
     Directory,
-    /// A link, a FIFO, or whatever else is no file of bytes.
+    Link,
+    /// A FIFO, a device, or whatever else is no file of bytes.
     Other,
 }
 
@@ -35,18 +36,48 @@ fn what_stands<R: Files>(rt: &R, name: &str) -> io::Result<Named> {
     match fs::symlink_metadata(rt, name) {
         Ok(data) if data.is_file() => Ok(Named::File),
         Ok(data) if data.is_dir() => Ok(Named::Directory),
+        Ok(data) if data.is_symlink() => Ok(Named::Link),
         Ok(_) => Ok(Named::Other),
         Err(e) if e.kind() == ErrorKind::NotFound => Ok(Named::Nothing),
         Err(e) => Err(e),
     }
 }
 
+/// What a link leads to, over further links. One that leads to itself leads to nothing.
+fn target<R: Files>(rt: &R, link: &str) -> io::Result<Named> {
+    match fs::metadata(rt, link) {
+        Ok(data) if data.is_file() => Ok(Named::File),
+        Ok(data) if data.is_dir() => Ok(Named::Directory),
+        Ok(_) => Ok(Named::Other),
+        Err(e) => match e.kind() {
+            ErrorKind::NotFound | ErrorKind::NotADirectory | ErrorKind::FilesystemLoop => {
+                Ok(Named::Nothing)
+            }
+            _ => Err(e),
+        },
+    }
+}
+
+/// What a read finds under a name: with `follows` a link is taken for its target.
+fn what_is_read<R: Files>(rt: &R, name: &str, follows: bool) -> io::Result<Named> {
+    match what_stands(rt, name)? {
+        Named::Link if follows => target(rt, name),
+        named => Ok(named),
+    }
+}
+
 /// Reads from a place of a file on. What is no file of bytes isn't opened, and counts as missing:
 /// to open a FIFO waits for its other end.
-pub fn read_at<R: Files>(rt: &R, name: &str, start: u64, buf: &mut [u8]) -> io::Result<Piece>
+pub fn read_at<R: Files>(
+    rt: &R,
+    name: &str,
+    follows: bool,
+    start: u64,
+    buf: &mut [u8],
+) -> io::Result<Piece>
     ensures { IfOk result (λ piece. Fits piece buf.new) }
 {
-    match what_stands(rt, name)? {
+    match what_is_read(rt, name, follows)? {
         Named::File => {}
         _ => return Ok(Piece::Missing),
     }
@@ -60,7 +91,7 @@ pub fn remove_name<R: Files>(rt: &R, name: &str) -> io::Result<()> {
     match what_stands(rt, name)? {
         Named::Nothing => Ok(()),
         Named::Directory => fs::remove_dir(rt, name),
-        Named::File | Named::Other => fs::remove_file(rt, name),
+        Named::File | Named::Link | Named::Other => fs::remove_file(rt, name),
     }
 }
 

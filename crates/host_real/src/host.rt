@@ -18,6 +18,10 @@ use std::rt::Files;
 /// A name counts as a file only where it is a file of bytes: a link, a FIFO or a directory that a
 /// child left is missing to a read, and makes way for a new file.
 ///
+/// Until the first write or start a read follows links, so that the task and the portfolio may be
+/// links to files; from then on nothing is followed, so what was written and what a child left are
+/// taken for themselves. A link is never written through.
+///
 /// A child is the shell, which takes its input into a nameless file, sets its limits and then
 /// becomes the program; it ends with status 127 where one of these can't be done or there is no
 /// such program. `start` returns once the shell has taken the input.
@@ -27,6 +31,7 @@ pub struct RealHost<'a, R: Files + Processes> {
     rt: &'a R,
     running: Vec<Running<R::Started>>,
     faults: u64,
+    follows: bool,
 }
 
 impl<'a, R: Files + Processes> RealHost<'a, R> {
@@ -38,6 +43,7 @@ impl<'a, R: Files + Processes> RealHost<'a, R> {
             rt,
             running: Vec::new(alloc),
             faults: 0,
+            follows: true,
         }
     }
 }
@@ -49,21 +55,24 @@ impl<'a, R: Files + Processes> Folder for RealHost<'a, R> {
     ghost told = { λ h. untold (slots h.running.items) h.faults };
 
     fn read_some(&mut self, name: &str, start: u64, buf: &mut [u8]) -> Result<Piece, Failed> {
-        let answer = read_at(self.rt, name, start, buf);
+        let answer = read_at(self.rt, name, self.follows, start, buf);
         counted(&mut self.faults, answer)
     }
 
     fn create(&mut self, name: &str) -> Result<(), Failed> {
+        self.follows = false;
         let answer = create_empty(self.rt, name);
         counted(&mut self.faults, answer)
     }
 
     fn append(&mut self, name: &str, piece: &[u8]) -> Result<(), Failed> {
+        self.follows = false;
         let answer = append_to(self.rt, name, piece);
         counted(&mut self.faults, answer)
     }
 
     fn rename(&mut self, old: &str, new: &str) -> Result<(), Failed> {
+        self.follows = false;
         let answer = rename_over(self.rt, old, new);
         counted(&mut self.faults, answer)
     }
@@ -82,6 +91,7 @@ impl<'a, R: Files + Processes> Host for RealHost<'a, R> {
         input: &[u8],
         limits: Limits,
     ) -> Result<(), Failed> {
+        self.follows = false;
         let program = Program {
             words,
             input,

@@ -1,7 +1,7 @@
 // Files of the real host.
 use crate::children::succeeds;
 use host_real::RealHost;
-use lama_host::{Folder, Piece};
+use lama_host::{Folder, Host, Limits, Piece};
 use std::alloc::Global;
 use std::process::Processes;
 use std::rt::Files;
@@ -100,15 +100,42 @@ fn names_with_odd_bytes(rt: HostRuntime) {
 
 const PLANTED: &str =
     "mkfifo pipe && printf kept > target && ln -s target link && ln -s loop loop && \
-     mkdir empty full && touch full/x";
+     mkdir empty full && touch full/x && ln -s full to_folder && ln -s pipe to_pipe && \
+     ln -s /dev/null to_device && ln -s nothing to_nothing && ln -s target/x to_no_folder";
 
 /// Whether what stands under names that are no files is no file to a read.
 fn are_missing<R: Files + Processes>(host: &mut RealHost<'_, R>) -> bool {
     is_missing(host, "pipe")
-        && is_missing(host, "link")
         && is_missing(host, "loop")
         && is_missing(host, "empty")
         && is_missing(host, "full")
+        && is_missing(host, "to_folder")
+        && is_missing(host, "to_pipe")
+        && is_missing(host, "to_device")
+        && is_missing(host, "to_nothing")
+        && is_missing(host, "to_no_folder")
+}
+
+/// Whether a link is read as its target until the first write or start, and never after.
+fn is_followed_at_first<R: Files + Processes>(alloc: Global, rt: &R) -> bool {
+    let mut host = RealHost::new(alloc, rt);
+    let followed = reads(&mut host, "link", 0, b"kept") && removes(&mut host, "to_nothing");
+    let still = reads(&mut host, "link", 1, b"ept");
+    followed && still && creates(&mut host, "new_file") && is_missing(&mut host, "link")
+}
+
+/// Whether a link is missing behind a child.
+fn is_missing_behind_a_child<R: Files + Processes>(
+    alloc: Global,
+    rt: &R,
+    words: &[String],
+) -> bool {
+    let mut host = RealHost::new(alloc, rt);
+    let free = Limits {
+        seconds: None,
+        kib: None,
+    };
+    host.start(0, words, b"", free).is_ok() && host.wait(0).is_ok() && is_missing(&mut host, "link")
 }
 
 /// Whether a link, a FIFO and a link to itself make way for a file.
@@ -127,6 +154,8 @@ fn what_a_child_may_leave(rt: HostRuntime) {
     let alloc = rt.alloc();
     assert!(rt; succeeds(alloc, &rt, PLANTED));
     assert!(rt; are_missing(&mut RealHost::new(alloc, &rt)));
+    assert!(rt; is_followed_at_first(alloc, &rt));
+    assert!(rt; is_missing_behind_a_child(alloc, &rt, &[]));
     assert!(rt; make_way(&mut RealHost::new(alloc, &rt)));
     assert!(rt; renames(alloc, &rt, "target", "empty"));
     assert!(rt; reads(&mut RealHost::new(alloc, &rt), "empty", 0, b"kept"));
