@@ -1,3 +1,2 @@
 -- Facts of a state's variables: the words stand with the task.
 pub use Rattle.sas_task.specs.Within.{is_within}
-pub use Rattle.sas_task.proofs.WithinLaws.{fact_within, all_facts_within, facts_within}

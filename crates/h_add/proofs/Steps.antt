@@ -31,7 +31,7 @@ use Rattle.h_add.proofs.Growing.{needed_at, written_back}
 use Rattle.lama_num.specs.declared.estimates.Estimate.{Estimate}
 use Rattle.lama_num.specs.declared.estimates.Estimate.TheVariants.{Finite, Infinite}
 use Rattle.relaxed_task.proofs.CostLaws.{IsClosed, price_at_most, sum_capped}
-use Rattle.relaxed_task.specs.CostLaws.{price_attained}
+use Rattle.relaxed_task.proofs.CostLaws.{price_attained}
 use Rattle.relaxed_task.proofs.EstimateLaws.{at_most_self, at_most_trans, at_most_infinite, both_at_least, IsCapped, at_most_both, least_left, least_right, plus_left, plus_right}
 use Rattle.relaxed_task.specs.Estimates.{least, IsAtMost, is_finite, IsLeast}
 use Rattle.relaxed_task.specs.Relaxing.{AreBest, IsBest, IsInOrder, least_price, sum_of as total}

@@ -20,7 +20,7 @@ use Rattle.relaxed_task.specs.declared.relaxation.Lists.{Lists}
 use Rattle.relaxed_task.specs.Estimates.{is_finite}
 use Rattle.relaxed_task.specs.Facts.{UnaryOperator}
 use Rattle.relaxed_task.proofs.NumberLaws.{supported_by_facts, weaker}
-use Rattle.relaxed_task.specs.PlanLaws.{kept_is_supported}
+use Rattle.relaxed_task.proofs.PlanLaws.{kept_is_supported}
 use Rattle.relaxed_task.specs.Reached.{IsDead}
 use Rattle.relaxed_task.specs.Relaxations.{IsRelaxed}
 use Rattle.h_add.specs.ByNumber.{start_facts}

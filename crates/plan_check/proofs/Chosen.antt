@@ -9,7 +9,8 @@ use Rattle.sas_task.specs.declared.contents.Operator.{Operator}
 use Rattle.sas_task.specs.declared.contents.Parts.{Parts}
 use Rattle.sas_task.specs.States.{all_hold, step}
 use Rattle.sas_task.specs.Runs.{start_of, end_of}
-use Rattle.state_step.specs.Steps.{is_applicable, step-applicable}
+use Rattle.state_step.specs.Steps.{is_applicable}
+use Rattle.sas_task.proofs.RunLaws.{step-applicable}
 use Rattle.plan_check.specs.Choices.{has_name, is_candidate, candidates, state_after, choices_from, choices, IsChoice}
 use Rattle.plan_check.specs.Verdicts.{state_by, last_state}
 use Rattle.plan_check.proofs.Naming.{candidates_in, drop_at}

@@ -12,7 +12,9 @@ use Rattle.sas_task.specs.declared.contents.Operator.{Operator}
 use Rattle.sas_task.specs.declared.contents.Parts.{Parts}
 use Rattle.sas_task.specs.States.{all_hold, step}
 use Rattle.sas_task.specs.Runs.{start_of, end_of}
-use Rattle.state_step.specs.Steps.{is_applicable, is_some-step, applicable-within}
+use Rattle.state_step.specs.Steps.{is_applicable}
+use Rattle.sas_task.proofs.RunLaws.{applicable-within}
+use Rattle.sas_task.proofs.RunLaws.{is_some-step}
 use Rattle.plan_check.specs.Choices.{has_name, is_candidate, state_after, choices_from, IsChoice, IsBefore}
 use Rattle.plan_check.proofs.Chosen.{CanBeTaken, AreTaken}
 use Rattle.plan_check.proofs.Ends.{state_after-is}

@@ -25,7 +25,7 @@ use Rattle.relaxed_task.specs.AdditiveCosts.{IsAdditiveCost}
 use Rattle.relaxed_task.specs.Facts.{fact_at, facts_of, default_facts, start_facts, over_facts, distinct_facts, UnaryOperator, from_effect, from_rule, unary_operators}
 use Rattle.sas_task.proofs.FactLists.{same-true as facts_equal}
 use Rattle.relaxed_task.proofs.NumberingLaws.{IsNumbering, HasPlan, are_there, sum_of_map, all_once, any_once, each_once_kept, plan_kept}
-use Rattle.relaxed_task.specs.NumberingLaws.{cost_kept}
+use Rattle.relaxed_task.proofs.NumberingLaws.{cost_kept}
 use Rattle.relaxed_task.specs.Numbers.{number_by, number_of, numbers_by, numbers_of, costs_by, IsNumbered, over_numbers, distinct, by_number, numbered_unaries, is_below}
 use Rattle.relaxed_task.specs.Relaxations.{IsOffsets, IsRelaxed}
 use Rattle.relaxed_task.specs.Relaxing.{IsCost, IsSupported, sum_of}

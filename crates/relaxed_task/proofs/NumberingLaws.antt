@@ -11,7 +11,7 @@ use Rattle.lama_num.specs.declared.estimates.Estimate.{Estimate}
 use Rattle.lama_num.specs.declared.estimates.Estimate.TheVariants.{Finite, Infinite}
 use Rattle.lama_num.specs.Estimates.{estimate_sum}
 use Rattle.relaxed_task.specs.Estimates.{least, is_finite, IsAtMost}
-use Rattle.relaxed_task.specs.CostLaws.{finite_in}
+use Rattle.relaxed_task.proofs.CostLaws.{finite_in}
 use Rattle.relaxed_task.specs.Relaxing.{UnaryOver, has, each_once, in_round, sum_of, price_of, least_price, cost_in, IsCost, IsBest, AreBest, IsInOrder, asked, IsAsked, IsSupported}
 use Rattle.relaxed_task.proofs.RelaxingLaws.{is_given_by}
 

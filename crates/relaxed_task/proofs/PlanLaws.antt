@@ -9,7 +9,7 @@ use Rattle.lama_num.specs.Estimates.{estimate_sum}
 use Rattle.relaxed_task.specs.Estimates.{least, is_finite, IsAtMost}
 use Rattle.relaxed_task.proofs.EstimateLaws.{at_most_self, at_most_trans, at_most_both, finite_below, least_cases, IsCapped, least_capped, plus_left, plus_right}
 use Rattle.relaxed_task.proofs.CostLaws.{sum_capped, price_at_most, least_price_capped, AreLeast, Cheapest, cheapest}
-use Rattle.relaxed_task.specs.CostLaws.{least_closed}
+use Rattle.relaxed_task.proofs.CostLaws.{least_closed}
 use Rattle.relaxed_task.specs.Relaxing.{UnaryOver, has, sum_of, price_of, least_price, cost_in, AreBest, IsInOrder, asked, IsAsked, IsSupported, kept}
 
 -- facts that have the start and are closed under best supporters

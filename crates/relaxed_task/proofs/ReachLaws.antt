@@ -21,7 +21,8 @@ use Rattle.sas_task.specs.declared.contents.Operator.{Operator}
 use Rattle.sas_task.specs.declared.contents.Parts.{Parts}
 use Rattle.sas_task.specs.declared.contents.Rule.{Rule}
 use Rattle.relaxed_task.specs.AdditiveCosts.{IsAdditiveCost, AreAdditiveCosts}
-use Rattle.relaxed_task.specs.CostLaws.{finite_reached, infinite_unreached}
+use Rattle.relaxed_task.proofs.CostLaws.{infinite_unreached}
+use Rattle.relaxed_task.proofs.CostLaws.{finite_reached}
 use Rattle.relaxed_task.proofs.Elements.{any_at}
 use Rattle.relaxed_task.specs.Estimates.{is_finite}
 use Rattle.relaxed_task.specs.Facts.{fact_at, facts_of, default_facts, start_facts, over_facts, from_effect, from_rule, unary_operators}

@@ -10,7 +10,8 @@ use Rattle.sas_task.specs.declared.contents.Parts.{Parts}
 use Rattle.sas_task.specs.WellFormed.{IsWellFormed}
 use Rattle.sas_task.specs.States.{all_hold, written, settled, step}
 use Rattle.axiom_eval.specs.Within.{is_within}
-use Rattle.state_step.specs.Steps.{effect_is_within, is_applicable, step-applicable}
+use Rattle.state_step.specs.Steps.{effect_is_within, is_applicable}
+use Rattle.sas_task.proofs.RunLaws.{step-applicable}
 use Rattle.state_step.specs.declared.tables.Change.{Change}
 use Rattle.state_step.specs.Tables.{effect_of, is_row, AreEffects}
 use Rattle.state_step.proofs.RunLaws.{pre_within, effects_within}

@@ -11,7 +11,10 @@ use Rattle.sas_task.specs.WellFormed.{IsWellFormed, is_effect, are_facts}
 use Rattle.sas_task.specs.States.{step}
 use Rattle.sas_task.specs.Runs.{start_of, end_of, cost_of, cost_at}
 use Rattle.sas_task.proofs.RunLaws.{operator-at, effect-fact, end_of-append, cost_of-append}
-use Rattle.axiom_eval.specs.Within.{is_within, fact_within, all_facts_within, facts_within}
+use Rattle.axiom_eval.specs.Within.{is_within}
+use Rattle.sas_task.proofs.WithinLaws.{facts_within}
+use Rattle.sas_task.proofs.WithinLaws.{all_facts_within}
+use Rattle.sas_task.proofs.WithinLaws.{fact_within}
 use Rattle.state_step.specs.Steps.{effect_is_within, is_applicable}
 use Rattle.state_step.specs.RunEnds.{StopsAt}
 

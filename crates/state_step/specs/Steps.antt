@@ -4,7 +4,6 @@ use Rattle.std.specs.List.{list_all}
 use Rattle.sas_task.specs.declared.contents.Effect.{Effect}
 use Rattle.axiom_eval.specs.Within.{is_within}
 pub use Rattle.sas_task.specs.States.{is_applicable}
-pub use Rattle.sas_task.proofs.RunLaws.{is_some-step, applicable-within, step-applicable, step-none}
 
 -- the variables of an effect are among so many
 abbrev pub effect_is_within : ℕ → Effect → Bool

@@ -1,6 +1,6 @@
 use Rattle.std.proofs.Common.{◌<◌, length, subst, sym}
 use Rattle.state_step.specs.Stepper.{Steps}
-use Rattle.state_step.specs.Steps.{applicable-within}
+use Rattle.sas_task.proofs.RunLaws.{applicable-within}
 use Rattle.state_step.specs.Tables.{AreEffects, AreTables}
 use Rattle.state_step.proofs.Looking.{changes_within, changes_step}
 use Rattle.state_step.proofs.stepper.Stepper.apply_into.Goals as goal
