@@ -2,7 +2,7 @@
 use Rattle.std.proofs.Common.{◌≡◌, ◌≢◌, ◌∙◌, sym, ap, subst, refl, ℕ, zero, suc, List, [], ◌∷◌, ◌++◌, Bool, true, false, ◌≤◌, slice_get, Option, Some, None, append-nil, append_assoc}
 use Rattle.sas_task.specs.declared.contents.Parts.{Parts}
 use Rattle.conf_text.specs.declared.config.Config.{Config}
-use Rattle.phase_ends.specs.Ends.{begun}
+use Rattle.iterated.specs.Following.{begun}
 use Rattle.search_log.specs.declared.turns.Pop.{Pop}
 use Rattle.search_log.specs.Phases.{Phase as SearchPhase}
 use Rattle.search_log.proofs.ClockLaws.{no_answers}

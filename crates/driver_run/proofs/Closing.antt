@@ -9,7 +9,7 @@ use Rattle.std.proofs.lemmas.List.{length-map}
 use Rattle.std.proofs.lemmas.Bool.Decides.{nat_tests}
 use Rattle.driver_run.proofs.Turning.{over_full}
 use Rattle.driver_run.proofs.Stepping.{at_phase}
-use Rattle.phase_ends.specs.Ends.{begun}
+use Rattle.iterated.specs.Following.{begun}
 use Rattle.search_log.specs.Logs.{Content}
 use Rattle.search_log.specs.Members.{Member}
 use Rattle.iterated.specs.declared.ends.PhaseEnd.{PhaseEnd}

@@ -10,7 +10,7 @@ use Rattle.conf_text.specs.declared.config.Config.{Config}
 use Rattle.conf_text.specs.Accepted.{IsConfig}
 use Rattle.driver_core.specs.Keeping.{bound_of}
 use Rattle.lama_num.specs.Bounds.{is_below}
-use Rattle.phase_ends.specs.Ends.{begun, place_after_plan}
+use Rattle.iterated.specs.Following.{begun, place_after_plan}
 use Rattle.search_log.specs.Logs.{Content}
 use Rattle.iterated.specs.declared.ends.PhaseEnd.{PhaseEnd}
 use Rattle.iterated.specs.declared.ends.PhaseEnd.TheVariants.{Plan}

@@ -11,8 +11,8 @@ use Rattle.conf_text.specs.declared.config.Phase.{Phase}
 use Rattle.conf_text.specs.Accepted.{each_once, IsPhase as IsConfigPhase}
 use Rattle.conf_text.specs.Grammar.{same_guide, has_guide, every_guide}
 use Rattle.driver_core.specs.Keeping.{bound_of}
-use Rattle.phase_ends.specs.declared.ends.Begun.TheVariants as begins
-use Rattle.phase_ends.specs.Ends.{begun}
+use Rattle.iterated.specs.declared.ends.Begun.TheVariants as begins
+use Rattle.iterated.specs.Following.{begun}
 use Rattle.search_log.specs.declared.setting.LimitHit.{LimitHit}
 use Rattle.search_log.specs.declared.setting.LimitHit.TheVariants.{Time, Pops, States}
 use Rattle.search_log.specs.Logs.{Content}

@@ -5,7 +5,7 @@ use Rattle.std.proofs.lemmas.Option.{slice_get_within}
 use Rattle.sas_task.specs.declared.contents.Parts.{Parts}
 use Rattle.conf_text.specs.declared.config.Config.{Config}
 use Rattle.driver_core.specs.Keeping.{bound_of}
-use Rattle.phase_ends.specs.Ends.{begun, place_after}
+use Rattle.iterated.specs.Following.{begun, place_after}
 use Rattle.search_log.specs.Logs.{Content}
 use Rattle.search_log.specs.Members.{Member}
 use Rattle.iterated.specs.declared.ends.PhaseEnd.TheVariants.{Unsolved}

@@ -17,8 +17,8 @@ use Rattle.driver_core.specs.declared.events.Event.{Event}
 use Rattle.driver_core.specs.declared.settings.Setting.{Setting}
 use Rattle.driver_core.specs.Keeping.{kept_costs, bound_of}
 use Rattle.lama_num.specs.Bounds.{is_below}
-use Rattle.phase_ends.specs.declared.ends.Begun.TheVariants as begins
-use Rattle.phase_ends.specs.Ends.{begun}
+use Rattle.iterated.specs.declared.ends.Begun.TheVariants as begins
+use Rattle.iterated.specs.Following.{begun}
 use Rattle.search_log.specs.declared.turns.Pop.{Pop}
 use Rattle.search_log.specs.Logs.{Content, Visit}
 use Rattle.search_log.specs.Lawful.{Lawful}

@@ -4,11 +4,9 @@ use Rattle.sas_task.specs.declared.contents.Parts.{Parts}
 use Rattle.sas_task.specs.Runs.{IsPlan, cost_of}
 use Rattle.conf_text.specs.declared.config.Config.{Config}
 use Rattle.conf_text.specs.declared.config.Phase.{Phase}
-use Rattle.phase_ends.specs.declared.ends.Begun.{Begun}
-use Rattle.phase_ends.specs.declared.ends.Begun.TheVariants as begins
-use Rattle.phase_ends.specs.declared.ends.Ending.{Ending}
-use Rattle.phase_ends.specs.declared.ends.Ending.TheVariants as ending
-use Rattle.phase_ends.specs.Ends.{is_exact, place_after, place_next}
+use Rattle.iterated.specs.declared.ends.Begun.{Begun}
+use Rattle.iterated.specs.declared.ends.Begun.TheVariants as begins
+use Rattle.iterated.specs.Following.{is_exact, place_after, place_next}
 use Rattle.search_log.specs.declared.setting.Stop.{Stop}
 use Rattle.search_log.specs.Logs.{Content}
 use Rattle.lazy_search.specs.declared.end.SearchEnd.{SearchEnd}
@@ -56,21 +54,11 @@ EndsFrom parts config bound stop begins.Over end = end ≡ Over
 EndsFrom parts config bound stop begins.Best end = end ≡ Best [] no_log
 EndsFrom parts config bound stop (begins.Phase place) end = PhaseEnds parts config place bound stop end
 
--- how a phase ended, as the order of phases sees it
-abbrev pub ending_of : PhaseEnd → Ending
-ending_of (Plan ops cost log) = ending.Plan
-ending_of (Unsolvable space log) = ending.Unsolvable
-ending_of (Best space log) = ending.Best
-ending_of (Unsolved space log last) = ending.Unsolved last
-ending_of (Limit hit log) = ending.Limit
-ending_of Over = ending.Limit
-ending_of NoMemory = ending.NoMemory
-
 -- the place of the phase that is next after a call, if one is
 abbrev pub next_from : Config → Begun → PhaseEnd → Option ℕ
 next_from config begins.Over end = None
 next_from config begins.Best end = None
-next_from config (begins.Phase place) end = place_next config place (ending_of end)
+next_from config (begins.Phase place) end = place_next config place end
 
 -- What the clock was asked, by the answers that it tells before and after: nothing, or what the phase's log says.
 abbrev pub AsksFrom : Parts → Config → Option ℕ → Option Stop → Begun → Option (List ℕ) → Option (List ℕ) → PhaseEnd → Type 0

@@ -1,4 +1,5 @@
 pub mod Closing
 pub mod Ends
+pub mod Following
 pub mod Iterating
 pub mod Searches

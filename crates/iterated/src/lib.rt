@@ -1,12 +1,13 @@
 //! The phases of a configuration, one after another.
 //!
-//! `specs/Ends` says how each of them ends, and `specs/Searches` what it asks of its search.
+//! `specs/Ends` says how each of them ends, `specs/Following` which one follows, and
+//! `specs/Searches` what it asks of its search.
 #![tactic(auto)]
 
 mod ends;
 mod phases;
 mod searches;
 
-pub use ends::PhaseEnd;
+pub use ends::{Begun, PhaseEnd};
 pub use phase_guide::{PhaseGuide, guide};
 pub use phases::Iterated;

@@ -2,18 +2,17 @@
 ghost use Rattle.std.specs.Prelude.{◌≡◌, ◌≢◌, ◌≤◌, ◌<◌, IfOk, IfSome, length};
 ghost use Rattle.conf_text.specs.Accepted.{IsConfig};
 ghost use Rattle.phase_guide.specs.Guides.{IsFor as GuideIsFor};
-ghost use Rattle.phase_ends.specs.declared.ends.Begun.{Begun as TheBegun};
-ghost use Rattle.phase_ends.specs.Ends.{begun};
+ghost use Rattle.iterated.specs.declared.ends.Begun.{Begun as TheBegun};
+ghost use Rattle.iterated.specs.Following.{begun};
 ghost use Rattle.lazy_search.specs.Ends.{IsBetween, TellsOn, moment_by};
 ghost use Rattle.iterated.specs.Ends.{PhaseEnds, EndsFrom, AsksFrom, ShowsOfPlans, next_from};
 ghost use Rattle.iterated.specs.Ends.{search_end};
 
-use crate::ends::{PhaseEnd, searched_of};
+use crate::ends::{Begun, PhaseEnd, begin};
 use crate::searches::search_by;
 use conf_text::Config;
 use lama_host::Clock;
 use lama_num::{Duplicate, NoMemory};
-use phase_ends::{Begun, begin, end_of, next_after};
 use phase_guide::{PhaseGuide, guide};
 use sas_task::Task;
 use search_log::{Log, Space, Stop};
@@ -69,11 +68,11 @@ fn run_phase<C: Clock>(
     ensures later { C.last clock.old ≤ C.last clock.new }
     ensures tells { TellsOn (C.answers clock.old) (C.answers clock.new) }
 {
-    let _metric = task.parts().metric;
+    // The call tells that the task is well formed.
+    let _ = task.parts();
     let phase = &config.phases[place];
     let end = search_by(alloc, task, phase, guide, bound, stop, clock);
-    let ending = end_of(config, place, bound, searched_of(&end));
-    PhaseEnd::by(end, ending)
+    PhaseEnd::by(end, config, place)
 }
 
 impl Iterated {
@@ -143,7 +142,7 @@ impl Iterated {
                     stop,
                     clock,
                 );
-                self.next = next_after(&self.config, place, end.ending());
+                self.next = end.next_place(&self.config, place);
                 end
             }
         }

@@ -25,7 +25,7 @@ use Rattle.search_log.specs.Ends.{EndsAtLimit}
 use Rattle.search_log.specs.Logs.{Content}
 use Rattle.search_log.specs.Places.{Past as Before, past_of}
 use Rattle.search_log.specs.Rooms.{room, assignments}
-use Rattle.phase_ends.specs.Ends.{begun}
+use Rattle.iterated.specs.Following.{begun}
 use Rattle.iterated.specs.declared.ends.PhaseEnd.TheVariants as ended
 use Rattle.iterated.specs.Searches.{search_phase}
 use Rattle.iterated.specs.Ends.{EndsFrom, PhaseEnds}

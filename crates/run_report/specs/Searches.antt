@@ -11,7 +11,7 @@ use Rattle.driver_core.specs.Settings.{most_plans}
 use Rattle.driver_core.specs.Keeping.{kept_costs, bound_of}
 use Rattle.conf_text.specs.declared.config.Phase.{Phase}
 use Rattle.conf_text.specs.declared.config.Config.{Config}
-use Rattle.phase_ends.specs.Ends.{begun}
+use Rattle.iterated.specs.Following.{begun}
 use Rattle.search_log.specs.declared.setting.LimitHit.{LimitHit}
 use Rattle.search_log.specs.declared.setting.LimitHit.TheVariants.{Time, Pops, States}
 use Rattle.search_log.specs.Phases.{Phase as SearchPhase}
