@@ -1,13 +1,11 @@
 -- What the answer of a search says.
 use Rattle.std.proofs.Common.{◌≡◌, ℕ, ◌≤◌, Bool, List, [], Option, Some, None, refl, ap, sym, ◌∙◌, subst, ◌∷◌, arith}
-use Rattle.std.specs.Prelude.{is_some}
 use Rattle.sas_task.specs.declared.contents.Parts.{Parts}
 use Rattle.guide.specs.declared.seen.Seen.{Seen}
 use Rattle.search_log.specs.declared.setting.Setting.{Setting}
 use Rattle.search_log.specs.declared.setting.LimitHit.{LimitHit}
 use Rattle.search_log.specs.declared.turns.Pop.{Pop}
 use Rattle.search_log.specs.Logs.{Content, Visit}
-use Rattle.search_log.specs.Members.{Member}
 use Rattle.sas_task.specs.WellFormed.{IsWellFormed}
 use Rattle.search_log.specs.Phases.{Phase, IsPhase, IsSetting}
 use Rattle.search_log.specs.Places.{Node, Past}
@@ -17,15 +15,13 @@ use Rattle.search_log.specs.Clocks.{moment_of}
 use Rattle.lazy_search.specs.declared.machine.Machine.{Machine}
 use Rattle.lazy_search.specs.declared.end.SearchEnd.{SearchEnd}
 use Rattle.lazy_search.specs.declared.end.SearchEnd.TheVariants.{Plan, Unsolvable, Unsolved, Limit, NoMemory}
-use Rattle.lazy_search.specs.declared.phase.Halt.{Halt}
-use Rattle.lazy_search.specs.declared.phase.Halt.TheVariants as halt
-use Rattle.lazy_search.specs.declared.phase.Found.{Found}
-use Rattle.lazy_search.specs.declared.phase.Found.TheVariants as found
+use Rattle.lazy_search.specs.declared.searching.Halt.{Halt}
 use Rattle.lazy_search.specs.declared.shape.Shape.{Shape}
-use Rattle.lazy_search.specs.Machines.{phase_of, past_in, Rests}
+use Rattle.lazy_search.specs.Machines.{past_in, Rests}
+use Rattle.lazy_search.specs.Phases.{phase_of}
 use Rattle.lazy_search.specs.Ends.{Tells, EndsInPlan, EndsInSpace, EndsSo, EndHolds, ClockHolds, IsAnswered, moment_by, past_by, phase_by}
 use Rattle.lazy_search.proofs.Halting.{IsOver, first_over}
-use Rattle.lazy_search.specs.Halts.{Halts, HaltEnds, Finds, space_end, end_with, moment_at}
+use Rattle.lazy_search.specs.Halts.{Halts, HaltEnds}
 
 -- the past of a halt is what the log tells
 pub halt_ends : (phase : Phase) (K : ℕ → List (List ℕ) → Type 0) (F : List (List ℕ) → Seen → Type 0) (m : Machine) (h : Halt) → Halts phase K F m h → Rests phase m (past_in phase m) × HaltEnds phase (past_in phase m) h × TellsDead phase (past_in phase m)
@@ -41,22 +37,6 @@ tells phase K F G m h a means =
       fits = subst (AllFit G) same (λ j n at. means n.place.states n.visit.seen (a.guided.fits j n at));
       dead = subst (TellsDead phase) same a.guided.dead;
     }
-
-space_ends : (phase : Phase) (log : Content) (space : List Member) → EndsInSpace phase space log → (b : Option ℕ) → phase.setting.bound ≡ b → EndsSo phase log (space_end b space log) × (moment_by (space_end b space log) ≡ None)
-space_ends phase log space x None e = ((refl, x, e), refl)
-space_ends phase log space x (Some c) e = ((refl, x, ap is_some e), refl)
-
--- what was found is the answer
-pub ends_so : (phase : Phase) (log : Content) (h : Halt) (f : Found) → Finds phase log h f → EndsSo phase log (end_with phase.setting f log) × (moment_by (end_with phase.setting f log) ≡ moment_at h)
-ends_so phase log halt.AtGoal (found.Plan ops cost) x = ((refl, x), refl)
-ends_so phase log halt.AtGoal (found.Space space) x = absurd x
-ends_so phase log halt.AtGoal (found.Limit hit) x = absurd x
-ends_so phase log halt.Exhausted (found.Plan ops cost) x = absurd x
-ends_so phase log halt.Exhausted (found.Limit hit) x = absurd x
-ends_so phase log (halt.AtLimit own) (found.Plan ops cost) x = absurd x
-ends_so phase log (halt.AtLimit own) (found.Space space) x = absurd x
-ends_so phase log (halt.AtLimit own) (found.Limit hit) x = ((refl, x.1), ap moment_of x.0)
-ends_so phase log halt.Exhausted (found.Space space) x = space_ends phase log space x phase.setting.bound refl
 
 pub end_holds : (phase : Phase) (F : List (List ℕ) → Seen → Type 0) (whole : Content) (end : SearchEnd) → Tells phase F whole → EndsSo phase whole end → EndHolds phase F end
 end_holds phase F whole (Plan ops cost log) t e = (subst (Tells phase F) (sym e.0) t, subst (EndsInPlan phase ops cost) (sym e.0) e.1)

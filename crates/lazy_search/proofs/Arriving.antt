@@ -13,11 +13,11 @@ use Rattle.search_log.specs.Phases.{Phase, IsPhase}
 use Rattle.lama_num.specs.Bounds.{is_below}
 use Rattle.search_log.specs.Places.{Past, latest}
 use Rattle.search_log.proofs.TurnLaws.{result_over}
-use Rattle.lazy_search.specs.declared.rows.Row.{Row}
+use Rattle.lazy_search.specs.declared.rows.LatestVisit.{LatestVisit}
 use Rattle.lazy_search.specs.declared.states.States.{States}
 use Rattle.lazy_search.specs.declared.machine.Machine.{Machine}
-use Rattle.lazy_search.specs.declared.machine.Reached.{Reached}
-use Rattle.lazy_search.specs.declared.machine.Decision.TheVariants.{Known, Full, New, Again}
+use Rattle.lazy_search.specs.declared.steps.Reached.{Reached}
+use Rattle.lazy_search.specs.declared.steps.Decision.TheVariants.{Known, Full, New, Again}
 use Rattle.lazy_search.specs.States.{AreFor}
 use Rattle.lazy_search.specs.Machines.{packed_at, place_there, Reaches, Arrives}
 use Rattle.lazy_search.proofs.Reaching.{sound_of}
@@ -25,7 +25,7 @@ use Rattle.lazy_search.proofs.Deciding.{IsThere, next_is, to_state, known_there,
 
 -- the machine with other states
 abbrev pub with_states : Machine → States → Machine
-with_states m s = record { log = m.log; states = s; rows = m.rows; tree = m.tree; lists = m.lists; least = m.least; chosen = m.chosen; seen = m.seen }
+with_states m s = record { log = m.log; states = s; rows = m.rows; origins = m.origins; lists = m.lists; least = m.least; chosen = m.chosen; seen = m.seen }
 
 -- States that were looked for: the registry was as before, and then has what was found.
 pub record Looked (phase : Phase) (m : Machine) (past : Past) (r : Reached) (R : Reaches phase m m.states.registry.states past r) (between s : States) (found : Interned) : Type 0 where
@@ -85,7 +85,7 @@ still_reaches phase m past r R between s found l =
         most = most_now phase m past r R between s found l ∙ k.most;
         stored = k.stored ∙ ap (λ (y : Places). map (packed_at y) (latest past.nodes)) (sym (layout_now phase m past r R between s found l));
         rows = k.rows;
-        tree = k.tree;
+        origins = k.origins;
         least = k.least;
       };
       lists = R.lists;
@@ -141,7 +141,7 @@ pub known_within : (phase : Phase) (m : Machine) (past : Past) (r : Reached) (id
 known_within phase m past r id R between s is l =
     omega (arith, slice_get_within (latest past.nodes) id (there phase m past r id R between s is l).node (there phase m past r id R between s is l).at, rows_count phase m m.states.registry.states past R.kept)
 
-pub decided_known : (phase : Phase) (m : Machine) (past : Past) (r : Reached) (id : ℕ) (row : Row) (R : Reaches phase m m.states.registry.states past r) (between s : States) → IsPhase phase → is_below phase.setting.bound r.real ≡ true → Looked phase m past r R between s (found.Known id)
+pub decided_known : (phase : Phase) (m : Machine) (past : Past) (r : Reached) (id : ℕ) (row : LatestVisit) (R : Reaches phase m m.states.registry.states past r) (between s : States) → IsPhase phase → is_below phase.setting.bound r.real ≡ true → Looked phase m past r R between s (found.Known id)
     → row ≡ get_or m.rows.items id row → false ≡ (phase.setting.reopen && (not row.dead && nat_lt r.g row.g)) → Arrives phase (with_states m s) past r Known
 unfolding still_reaches
 decided_known phase m past r id row R between s is below l read test =
@@ -154,7 +154,7 @@ decided_known phase m past r id row R between s is below l read test =
       );
     }
 
-pub decided_again : (phase : Phase) (m : Machine) (past : Past) (r : Reached) (id : ℕ) (row : Row) (R : Reaches phase m m.states.registry.states past r) (between s : States) → IsPhase phase → is_below phase.setting.bound r.real ≡ true → Looked phase m past r R between s (found.Known id)
+pub decided_again : (phase : Phase) (m : Machine) (past : Past) (r : Reached) (id : ℕ) (row : LatestVisit) (R : Reaches phase m m.states.registry.states past r) (between s : States) → IsPhase phase → is_below phase.setting.bound r.real ≡ true → Looked phase m past r R between s (found.Known id)
     → row ≡ get_or m.rows.items id row → true ≡ (phase.setting.reopen && (not row.dead && nat_lt r.g row.g)) → Arrives phase (with_states m s) past r (Again id)
 unfolding still_reaches
 decided_again phase m past r id row R between s is below l read test =

@@ -32,17 +32,18 @@ use Rattle.search_log.proofs.CounterLaws.{least_visited}
 use Rattle.search_log.proofs.TurnLaws.{past_with}
 use Rattle.search_log.proofs.LogLaws.{logged_start}
 use Rattle.search_log.proofs.SoundLaws.{first_node}
-use Rattle.lazy_search.specs.declared.rows.Row.{Row}
-use Rattle.lazy_search.specs.declared.paths.Came.{Came}
+use Rattle.lazy_search.specs.declared.rows.LatestVisit.{LatestVisit}
+use Rattle.lazy_search.specs.declared.paths.Origin.{Origin}
 use Rattle.lazy_search.specs.declared.shape.Shape.{Shape}
-use Rattle.lazy_search.specs.declared.turns.Arrival.{Arrival}
+use Rattle.lazy_search.specs.declared.steps.Arrival.{Arrival}
 use Rattle.lazy_search.specs.declared.machine.Machine.{Machine}
-use Rattle.lazy_search.specs.declared.machine.Turned.TheVariants.{Empty}
+use Rattle.lazy_search.specs.declared.steps.Turned.TheVariants.{Empty}
 use Rattle.lazy_search.specs.Rows.{row_put}
 use Rattle.lazy_search.specs.Shapes.{lists_by}
 use Rattle.lazy_search.specs.Outcomes.{outcome_of, turned_by}
 use Rattle.lazy_search.specs.Visits.{IsBlank, row_for}
-use Rattle.lazy_search.specs.Machines.{phase_of, row_of, TreeStands, ListsStand, Rests, IsGuided, TurnEnds}
+use Rattle.lazy_search.specs.Machines.{row_of, OriginsStand, ListsStand, Rests, IsGuided, TurnEnds}
+use Rattle.lazy_search.specs.Phases.{phase_of}
 use Rattle.lazy_search.proofs.Growing.{Grown, lists_visited}
 use Rattle.lazy_search.proofs.Visiting.{Noted, noted_grows, counters_low}
 
@@ -96,11 +97,11 @@ abbrev pub visit_first : Seen → Visit
 visit_first seen = record { id = 0; g = 0; seen = seen }
 
 pub rests_first : (parts : Parts) (setting : Setting) (shape : Shape) (blank m new : Machine) (goal : Bool) (seen : Seen) → IsPhase (phase_of parts setting shape) → IsBlank parts setting shape blank
-    → m.log ≡ blank.log → m.rows ≡ blank.rows → m.tree ≡ blank.tree → m.lists ≡ blank.lists → m.least ≡ blank.least
+    → m.log ≡ blank.log → m.rows ≡ blank.rows → m.origins ≡ blank.origins → m.lists ≡ blank.lists → m.least ≡ blank.least
     → m.states.next.items ≡ start_of parts → m.states.registry.states ≡ packed m.states.registry.layout (start_of parts) ∷ [] → m.states.registry.most ≡ setting.most_states
     → Noted parts setting shape m (arrival_first goal) seen [] new
     → Rests (phase_of parts setting shape) new (start_past (phase_of parts setting shape) (visit_first seen))
-rests_first parts setting shape blank m new goal seen is b log rows tree lists least next words most noted =
+rests_first parts setting shape blank m new goal seen is b log rows origins lists least next words most noted =
     record {
       kept = record {
         logged = subst (λ (vs : List Visit). Logged phase vs new.log.pops (start_past phase v)) (sym visits) (subst (λ (ps : List Pop). Logged phase (v ∷ []) ps (start_past phase v)) (sym noted.pops_are) (logged_start phase v refl refl));
@@ -109,8 +110,8 @@ rests_first parts setting shape blank m new goal seen is b log rows tree lists l
         ready = noted.ready;
         most = ap (λ (g : Visits). g.most) noted.registry ∙ most;
         stored = ap (λ (g : Visits). g.states) noted.registry ∙ words ∙ ap (λ (g : Visits). packed g.layout (start_of parts) ∷ []) (sym noted.registry);
-        rows = noted.rows ∙ ap (λ (rs : List Row). row_put rs 0 (row_for m (arrival_first goal) seen.dead)) (ap (λ (x : Vec Row Global). x.items) rows ∙ b.rows) ∙ ap (λ (r : Row). r ∷ []) row;
-        tree = subst (TreeStands (n ∷ [])) (sym (noted.tree ∙ ap (λ (cs : List Came). cs ++ came ∷ []) (ap (λ (x : Vec Came Global). x.items) tree ∙ b.tree))) tree_first;
+        rows = noted.rows ∙ ap (λ (rs : List LatestVisit). row_put rs 0 (row_for m (arrival_first goal) seen.dead)) (ap (λ (x : Vec LatestVisit Global). x.items) rows ∙ b.rows) ∙ ap (λ (r : LatestVisit). r ∷ []) row;
+        origins = subst (OriginsStand (n ∷ [])) (sym (noted.origins ∙ ap (λ (cs : List Origin). cs ++ came ∷ []) (ap (λ (x : Vec Origin Global). x.items) origins ∙ b.origins))) origins_first;
         least = least_visited phase m.least new.least [] n blank_least grown.kept;
       };
       lists = lists_visited phase m.lists new.lists m.least new.least [] [] n refl refl (subst (λ (ls : OpenLists). ListsStand phase ls (past_with [] [])) (sym lists) (lists_blank parts setting shape blank b)) grown;
@@ -125,14 +126,14 @@ rests_first parts setting shape blank m new goal seen is b log rows tree lists l
     n : Node
     n = first_node phase v
 
-    came : Came
+    came : Origin
     came = record { origin = 0; op = 0 }
 
     visits : new.log.visits ≡ v ∷ []
     visits = noted.visits ∙ ap (λ (vs : List Visit). vs ++ v ∷ []) (ap (λ (l : Content). l.visits) log ∙ b.visits)
 
     row : row_for m (arrival_first goal) seen.dead ≡ row_of n
-    row = ap (λ (j : ℕ). let r : Row = record { g = 0; real = 0; number = j; dead = seen.dead } in r) (ap (λ (x : Vec Came Global). length x.items) tree ∙ ap length b.tree)
+    row = ap (λ (j : ℕ). let r : LatestVisit = record { g = 0; real = 0; number = j; dead = seen.dead } in r) (ap (λ (x : Vec Origin Global). length x.items) origins ∙ ap length b.origins)
 
     blank_least : LeastStand phase m.least []
     blank_least = least_blank phase m.least is (least ∙ b.least)
@@ -140,8 +141,8 @@ rests_first parts setting shape blank m new goal seen is b log rows tree lists l
     grown : Grown phase m.lists m.least n new.lists new.least
     grown = noted_grows parts setting shape m new (arrival_first goal) seen [] [] (start_place phase) noted next blank_least row
 
-    tree_first : TreeStands (n ∷ []) (came ∷ [])
-    tree_first = record {
+    origins_first : OriginsStand (n ∷ []) (came ∷ [])
+    origins_first = record {
       count = refl;
       first = λ q e. let same : n ≡ q = cc in ap (λ (x : Node). x.place.path) (sym same);
       later = λ j q l e. absurd (let o = one_at n q j e in omega (arith, l, o.0));

@@ -17,7 +17,7 @@ use Rattle.search_log.proofs.Sound.{Sound}
 use Rattle.search_log.proofs.Elements.{from-map}
 use Rattle.search_log.proofs.SoundLaws.{id_known, id_new}
 use Rattle.search_log.proofs.TurnLaws.{result_full, result_new, result_again, result_stays}
-use Rattle.lazy_search.specs.declared.rows.Row.{Row}
+use Rattle.lazy_search.specs.declared.rows.LatestVisit.{LatestVisit}
 use Rattle.lazy_search.specs.declared.machine.Machine.{Machine}
 use Rattle.open_lists.specs.declared.entry.Entry.{Entry}
 use Rattle.lazy_search.specs.States.{Opens}
@@ -131,19 +131,19 @@ finds_full phase m words past to kept below full absent =
 known_at : (phase : Phase) (past : Past) (to : Place) (id : ℕ) → (t : IsThere phase past to.state id) → slice_get (latest past.nodes) (id_of past.nodes to.state) ≡ Some t.node
 known_at phase past to id t = ap (slice_get (latest past.nodes)) (sym t.id_is) ∙ t.at
 
-reopens_by : (phase : Phase) (m : Machine) (words : List (List ℕ)) (past : Past) (to : Place) (id g : ℕ) (row : Row) (b : Bool) → Keeps phase m words past → (t : IsThere phase past to.state id) → row ≡ get_or m.rows.items id row → g ≡ to.g
+reopens_by : (phase : Phase) (m : Machine) (words : List (List ℕ)) (past : Past) (to : Place) (id g : ℕ) (row : LatestVisit) (b : Bool) → Keeps phase m words past → (t : IsThere phase past to.state id) → row ≡ get_or m.rows.items id row → g ≡ to.g
     → b ≡ (phase.setting.reopen && (not row.dead && nat_lt g row.g)) → is_reopened phase to t.node ≡ b
 reopens_by phase m words past to id g row b kept t read g_is test =
-    let there : slice_get m.rows.items id ≡ Some (row_of t.node) = ap (λ (rs : List Row). slice_get rs id) kept.rows ∙ slice_get-map row_of (latest past.nodes) id ∙ ap (option_map row_of) t.at in
+    let there : slice_get m.rows.items id ≡ Some (row_of t.node) = ap (λ (rs : List LatestVisit). slice_get rs id) kept.rows ∙ slice_get-map row_of (latest past.nodes) id ∙ ap (option_map row_of) t.at in
     let is : row ≡ row_of t.node = read ∙ get_or_from_slice_get m.rows.items id (row_of t.node) row there in
-    sym (test ∙ ap (λ (x : ℕ). phase.setting.reopen && (not row.dead && nat_lt x row.g)) g_is ∙ ap (λ (r : Row). phase.setting.reopen && (not r.dead && nat_lt to.g r.g)) is)
+    sym (test ∙ ap (λ (x : ℕ). phase.setting.reopen && (not row.dead && nat_lt x row.g)) g_is ∙ ap (λ (r : LatestVisit). phase.setting.reopen && (not r.dead && nat_lt to.g r.g)) is)
 
-pub stays_known : (phase : Phase) (m : Machine) (words : List (List ℕ)) (past : Past) (to : Place) (id g : ℕ) (row : Row) → Keeps phase m words past → (t : IsThere phase past to.state id) → row ≡ get_or m.rows.items id row → g ≡ to.g
+pub stays_known : (phase : Phase) (m : Machine) (words : List (List ℕ)) (past : Past) (to : Place) (id g : ℕ) (row : LatestVisit) → Keeps phase m words past → (t : IsThere phase past to.state id) → row ≡ get_or m.rows.items id row → g ≡ to.g
     → false ≡ (phase.setting.reopen && (not row.dead && nat_lt g row.g)) → is_below phase.setting.bound to.real ≡ true → result_of phase past to None ≡ Known
 stays_known phase m words past to id g row kept t read g_is test below =
     result_stays phase past to t.node None below (known_at phase past to id t) (reopens_by phase m words past to id g row false kept t read g_is test)
 
-pub visits_again : (phase : Phase) (m new : Machine) (words : List (List ℕ)) (past : Past) (to : Place) (id g : ℕ) (row : Row) → Sound phase past → Keeps phase m words past → (t : IsThere phase past to.state id) → row ≡ get_or m.rows.items id row → g ≡ to.g
+pub visits_again : (phase : Phase) (m new : Machine) (words : List (List ℕ)) (past : Past) (to : Place) (id g : ℕ) (row : LatestVisit) → Sound phase past → Keeps phase m words past → (t : IsThere phase past to.state id) → row ≡ get_or m.rows.items id row → g ≡ to.g
     → true ≡ (phase.setting.reopen && (not row.dead && nat_lt g row.g)) → is_below phase.setting.bound to.real ≡ true
     → new.states.registry.states ≡ words → new.states.registry.layout ≡ m.states.registry.layout → new.states.next.items ≡ to.state → IsVisited phase new past to id true
 visits_again phase m new words past to id g row sound kept t read g_is test below stored same_layout next =

@@ -24,13 +24,13 @@ use Rattle.search_log.proofs.Sound.{Sound, OnPath}
 use Rattle.search_log.proofs.Elements.{from-map}
 use Rattle.search_log.proofs.TableLaws.{latest-push, put_latest-at, table_grows}
 use Rattle.search_log.proofs.SpaceLaws.{lawful_exhausted}
-use Rattle.lazy_search.specs.declared.rows.Row.{Row}
-use Rattle.lazy_search.specs.declared.paths.Came.{Came}
+use Rattle.lazy_search.specs.declared.rows.LatestVisit.{LatestVisit}
+use Rattle.lazy_search.specs.declared.paths.Origin.{Origin}
 use Rattle.lazy_search.specs.declared.machine.Machine.{Machine}
 use Rattle.lazy_search.specs.States.{IsKept}
-use Rattle.lazy_search.specs.Trees.{AreEarlier, Traced}
-use Rattle.lazy_search.specs.Trees.Traced.{first, later}
-use Rattle.lazy_search.specs.Machines.{past_in, row_of, visit_at, TreeStands, Keeps, Rests}
+use Rattle.lazy_search.specs.Origins.{AreEarlier, Traced}
+use Rattle.lazy_search.specs.Origins.Traced.{first, later}
+use Rattle.lazy_search.specs.Machines.{past_in, row_of, visit_at, OriginsStand, Keeps, Rests}
 use Rattle.lazy_search.specs.Ends.{EndsInPlan, EndsInSpace}
 use Rattle.lazy_search.proofs.Reaching.{sound_of, row_there, nothing_held}
 use Rattle.lazy_search.proofs.Deciding.{rows_count, words_there}
@@ -96,15 +96,15 @@ is_kept phase m past id n is rests at = record {
   stored = words_there phase m m.states.registry.states past id n rests.kept at;
 }
 
--- the tree goes back from each visit
-pub tree_earlier : (nodes : List Node) (tree : List Came) → TreeStands nodes tree → AreEarlier tree
-tree_earlier nodes tree s = record {
+-- the origins goes back from each visit
+pub origins_earlier : (nodes : List Node) (origins : List Origin) → OriginsStand nodes origins → AreEarlier origins
+origins_earlier nodes origins s = record {
   earlier = λ j came lt at.
-      let n = found nodes j (omega (arith, slice_get_within tree j came at, s.count)) in
+      let n = found nodes j (omega (arith, slice_get_within origins j came at, s.count)) in
       let c = s.later j n.0 lt n.1 in
-      let e : Some c.came ≡ Some came = sym c.in_tree ∙ at in
+      let e : Some c.came ≡ Some came = sym c.in_origins ∙ at in
       let same : c.came ≡ came = cc in
-      subst (λ (x : Came). x.origin < j) same c.earlier;
+      subst (λ (x : Origin). x.origin < j) same c.earlier;
 }
   where
     found : (xs : List Node) (i : ℕ) → i < length xs → (x : Node) × (slice_get xs i ≡ Some x)
@@ -112,14 +112,14 @@ tree_earlier nodes tree s = record {
     found (x ∷ xs) zero l = (x, refl)
     found (x ∷ xs) (suc i) l = found xs i (omega (arith, l))
 
-pub traced_path : (nodes : List Node) (tree : List Came) → TreeStands nodes tree → (j : ℕ) (path : List ℕ) → Traced tree j path → (n : Node) → slice_get nodes j ≡ Some n → path ≡ n.place.path
-traced_path nodes tree s _ _ first n at = sym (s.first n at)
-traced_path nodes tree s _ _ (later j came front lt read t) n at =
+pub traced_path : (nodes : List Node) (origins : List Origin) → OriginsStand nodes origins → (j : ℕ) (path : List ℕ) → Traced origins j path → (n : Node) → slice_get nodes j ≡ Some n → path ≡ n.place.path
+traced_path nodes origins s _ _ first n at = sym (s.first n at)
+traced_path nodes origins s _ _ (later j came front lt read t) n at =
     let c = s.later j n lt at in
-    let e : Some c.came ≡ Some came = sym c.in_tree ∙ read in
+    let e : Some c.came ≡ Some came = sym c.in_origins ∙ read in
     let same : c.came ≡ came = cc in
-    let rest = traced_path nodes tree s came.origin front t c.origin (ap (λ (x : Came). slice_get nodes x.origin) (sym same) ∙ c.at) in
-    ap (λ (ops : List ℕ). ops ++ came.op ∷ []) rest ∙ ap (λ (x : Came). c.origin.place.path ++ x.op ∷ []) (sym same) ∙ sym c.path
+    let rest = traced_path nodes origins s came.origin front t c.origin (ap (λ (x : Origin). slice_get nodes x.origin) (sym same) ∙ c.at) in
+    ap (λ (ops : List ℕ). ops ++ came.op ∷ []) rest ∙ ap (λ (x : Origin). c.origin.place.path ++ x.op ∷ []) (sym same) ∙ sym c.path
 
 split_last : {X : Type 0} (xs : List X) (x : X) → slice_get xs (length xs - 1) ≡ Some x → (front : List X) × (xs ≡ front ++ x ∷ [])
 split_last [] x h = cc
@@ -143,8 +143,8 @@ last_latest phase past n s last =
     ]
 
 -- the plan of a machine whose last visit is a goal
-pub ends_in_plan : (phase : Phase) (m : Machine) (visit : ℕ) (path : List ℕ) (v : Visit) (row : Row) → IsPhase phase → Rests phase m (past_in phase m) → ((n : Node) × EndsInGoal phase (past_in phase m) n)
-    → visit ≡ length m.log.visits - 1 → length m.log.visits < 2 ^ 32 → Traced m.tree.items visit path → slice_get m.log.visits visit ≡ Some v → row ≡ get_or m.rows.items v.id row
+pub ends_in_plan : (phase : Phase) (m : Machine) (visit : ℕ) (path : List ℕ) (v : Visit) (row : LatestVisit) → IsPhase phase → Rests phase m (past_in phase m) → ((n : Node) × EndsInGoal phase (past_in phase m) n)
+    → visit ≡ length m.log.visits - 1 → length m.log.visits < 2 ^ 32 → Traced m.origins.items visit path → slice_get m.log.visits visit ≡ Some v → row ≡ get_or m.rows.items v.id row
     → EndsInPlan phase path row.real m.log
 ends_in_plan phase m visit path v row is rests goal at few traced read read_row =
     record {
@@ -153,11 +153,11 @@ ends_in_plan phase m visit path v row is rests goal at few traced read read_row 
       path = path_is;
       plan = record {
         plan = subst (IsPlan phase.parts) (sym path_is) (record { last = n.place.state; leads = on_path.leads; goal = (and_parts (not n.visit.seen.dead) (is_goal phase.parts n.place.state) goal.1.goal).1 });
-        cost_is = ap (λ (x : Row). x.real) row_is ∙ on_path.real ∙ ap (cost_of phase.parts) (sym path_is);
+        cost_is = ap (λ (x : LatestVisit). x.real) row_is ∙ on_path.real ∙ ap (cost_of phase.parts) (sym path_is);
         operators = subst (λ (ops : List ℕ). (k : ℕ) → k < length ops → slice_index ops k < length phase.parts.operators) (sym path_is) (ops-within phase.parts (start_of phase.parts) n.place.path n.place.state on_path.leads);
         few = omega (arith, ap length path_is, sound.short (length past.nodes - 1) n goal.1.last, count, few);
       };
-      below = subst (λ (c : ℕ). is_below phase.setting.bound c ≡ true) (sym (ap (λ (x : Row). x.real) row_is)) (sound.below (length past.nodes - 1) n goal.1.last);
+      below = subst (λ (c : ℕ). is_below phase.setting.bound c ≡ true) (sym (ap (λ (x : LatestVisit). x.real) row_is)) (sound.below (length past.nodes - 1) n goal.1.last);
     }
   where
     past : Past
@@ -179,7 +179,7 @@ ends_in_plan phase m visit path v row is rests goal at few traced read read_row 
     last = omega (arith, at, count)
 
     path_is : path ≡ n.place.path
-    path_is = traced_path past.nodes m.tree.items k.tree visit path traced n (ap (slice_get past.nodes) last ∙ goal.1.last)
+    path_is = traced_path past.nodes m.origins.items k.origins visit path traced n (ap (slice_get past.nodes) last ∙ goal.1.last)
 
     on_path : OnPath phase n.place
     on_path = sound.paths (length past.nodes - 1) n goal.1.last
@@ -196,12 +196,12 @@ ends_in_plan phase m visit path v row is rests goal at few traced read read_row 
         ∙ get_or_from_slice_get m.rows.items n.visit.id (row_of n) row (row_there phase m m.states.registry.states past n.visit.id n k (last_latest phase past n sound goal.1.last))
 
 -- what the plan's reading asks for
-pub last_visit_there : (phase : Phase) (m : Machine) (past : Past) → IsPhase phase → Rests phase m past → (length m.tree.items ≡ length m.log.visits) × (0 < length m.log.visits)
+pub last_visit_there : (phase : Phase) (m : Machine) (past : Past) → IsPhase phase → Rests phase m past → (length m.origins.items ≡ length m.log.visits) × (0 < length m.log.visits)
 last_visit_there phase m past is rests =
     let k = rests.kept in
     let sound = sound_of phase m.log.visits m.log.pops past is k.logged in
     let count : length m.log.visits ≡ length past.nodes = ap length k.visits ∙ length-map past.nodes visit_at in
-    (omega (arith, k.tree.count, count), omega (arith, count, sound.begun))
+    (omega (arith, k.origins.count, count), omega (arith, count, sound.begun))
 
 pub row_of_last : (phase : Phase) (m : Machine) (past : Past) (visit : ℕ) (v : Visit) → IsPhase phase → Rests phase m past → slice_get m.log.visits visit ≡ Some v → v.id < length m.rows.items
 row_of_last phase m past visit v is rests read =

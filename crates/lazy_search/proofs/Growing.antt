@@ -1,4 +1,4 @@
--- What a visit adds to the lists, the least estimates, the tree and the rows.
+-- What a visit adds to the lists, the least estimates, the origins and the rows.
 use Rattle.std.proofs.Common.{◌≡◌, ℕ, ◌+◌, ◌<◌, min, Bool, true, false, not, List, [], ◌∷◌, ◌++◌, map, length, slice_get, Some, refl, ap, sym, ◌∙◌, subst, arith, inl, inr}
 use Rattle.std.specs.Prelude.{filter, ◌&&◌, ◌||◌, if◌then◌else◌, slice_index, slice_set, pos, ℤ, ◌-ℤ◌}
 use Rattle.std.proofs.lemmas.List.{append-nil, length-append, length-map, map-append, map-set}
@@ -24,11 +24,12 @@ use Rattle.search_log.proofs.TurnLaws.{past_with}
 use Rattle.std.specs.List.{list_all}
 use Rattle.std.specs.Prelude.{nat_lt}
 use Rattle.lazy_search.specs.declared.shape.Shape.{Shape}
-use Rattle.lazy_search.specs.declared.paths.Came.{Came}
+use Rattle.lazy_search.specs.declared.paths.Origin.{Origin}
 use Rattle.lazy_search.specs.Rows.{row_put}
 use Rattle.lazy_search.specs.Shapes.{is_preferred_by}
 use Rattle.lazy_search.specs.Entries.{puts_in, operators_below, is_less, Expands}
-use Rattle.lazy_search.specs.Machines.{phase_of, row_of, ListsStand, TreeStands}
+use Rattle.lazy_search.specs.Machines.{row_of, ListsStand, OriginsStand}
+use Rattle.lazy_search.specs.Phases.{phase_of}
 use Rattle.lama_num.proofs.BoolLaws.{and-false, and-true}
 
 filter-filter : {X : Type 0} (a b : X → Bool) (xs : List X) → filter (λ x. a x && b x) xs ≡ filter a (filter b xs)
@@ -118,12 +119,12 @@ lists_visited phase old new least new_least nodes pops n number taken s g =
           ∙ sym (counter-visit phase nodes pops n k);
     }
 
--- the tree after a visit
-pub tree_visited : (nodes : List Node) (tree : List Came) (n : Node) (came : Came) (from : Node) → TreeStands nodes tree → 0 < length nodes → slice_get nodes came.origin ≡ Some from → n.place.path ≡ from.place.path ++ came.op ∷ []
-    → TreeStands (nodes ++ n ∷ []) (tree ++ came ∷ [])
-tree_visited nodes tree n came from s begun at path =
+-- the origins after a visit
+pub origins_visited : (nodes : List Node) (origins : List Origin) (n : Node) (came : Origin) (from : Node) → OriginsStand nodes origins → 0 < length nodes → slice_get nodes came.origin ≡ Some from → n.place.path ≡ from.place.path ++ came.op ∷ []
+    → OriginsStand (nodes ++ n ∷ []) (origins ++ came ∷ [])
+origins_visited nodes origins n came from s begun at path =
     record {
-      count = length-append tree (came ∷ []) ∙ omega (arith, s.count, length-append nodes (n ∷ []));
+      count = length-append origins (came ∷ []) ∙ omega (arith, s.count, length-append nodes (n ∷ []));
       first = λ m e. s.first m (sym (slice_get-push_other nodes n 0 (λ f. omega (arith, f, begun))) ∙ e);
       later = λ j m l e. elim (cases_eq j (length nodes)) [
         | inl here ↦
@@ -132,7 +133,7 @@ tree_visited nodes tree n came from s begun at path =
             record {
               came = came;
               origin = from;
-              in_tree = ap (slice_get (tree ++ came ∷ [])) (here ∙ sym s.count) ∙ slice_get-push_at tree came;
+              in_origins = ap (slice_get (origins ++ came ∷ [])) (here ∙ sym s.count) ∙ slice_get-push_at origins came;
               earlier = omega (arith, here, slice_get_within nodes came.origin from at);
               at = slice_get-push_below nodes n came.origin from at;
               path = ap (λ (q : Node). q.place.path) g ∙ path;
@@ -142,7 +143,7 @@ tree_visited nodes tree n came from s begun at path =
             record {
               came = c.came;
               origin = c.origin;
-              in_tree = slice_get-push_below tree came j c.came c.in_tree;
+              in_origins = slice_get-push_below origins came j c.came c.in_origins;
               earlier = c.earlier;
               at = slice_get-push_below nodes n c.came.origin c.origin c.at;
               path = c.path;

@@ -10,9 +10,9 @@ use Rattle.search_log.specs.Phases.{Phase}
 use Rattle.search_log.specs.Clocks.{is_late}
 use Rattle.search_log.specs.Ends.{EndsExhausted, EndsAtPops, EndsAtLimit}
 use Rattle.lazy_search.specs.declared.machine.Machine.{Machine}
-use Rattle.lazy_search.specs.declared.machine.Turned.{Turned}
-use Rattle.lazy_search.specs.declared.machine.Turned.TheVariants.{Empty, Done, AtGoal, AtFull}
-use Rattle.lazy_search.specs.declared.phase.Halt.TheVariants as halt
+use Rattle.lazy_search.specs.declared.steps.Turned.{Turned}
+use Rattle.lazy_search.specs.declared.steps.Turned.TheVariants.{Empty, Done, AtGoal, AtFull}
+use Rattle.lazy_search.specs.declared.searching.Halt.TheVariants as halt
 use Rattle.search_log.specs.declared.turns.Pop.{Pop}
 use Rattle.lazy_search.specs.Outcomes.{PopsMore}
 use Rattle.lazy_search.specs.Machines.{AfterTurn}

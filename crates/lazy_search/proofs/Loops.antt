@@ -3,9 +3,9 @@ use Rattle.std.proofs.Common.{◌≡◌, ℕ, ◌+◌, ◌<◌, Bool, true, fals
 use Rattle.std.specs.Prelude.{filter}
 use Rattle.std.proofs.lemmas.List.{append-nil, append_assoc, take_more, reverse-append}
 use Rattle.std.proofs.lemmas.List.Elements.{filter-append}
-use Rattle.lazy_search.specs.declared.paths.Came.{Came}
-use Rattle.lazy_search.specs.Trees.{Traced}
-use Rattle.lazy_search.specs.Trees.Traced.{first, later}
+use Rattle.lazy_search.specs.declared.paths.Origin.{Origin}
+use Rattle.lazy_search.specs.Origins.{Traced}
+use Rattle.lazy_search.specs.Origins.Traced.{first, later}
 
 -- one operator more that is kept, or isn't
 pub kept_more : (f : ℕ → Bool) (xs kept : List ℕ) (i : ℕ) → i < length xs → f (get_or xs i 0) ≡ true → kept ≡ filter f (take i xs) → kept ++ get_or xs i 0 ∷ [] ≡ filter f (take (i + 1) xs)
@@ -19,12 +19,12 @@ kept_same f xs kept i l t is =
     ∙ sym (ap (filter f) (take_more xs i 0 l) ∙ filter-append f (take i xs) (get_or xs i 0 ∷ []) ∙ ap (λ (b : Bool). filter f (take i xs) ++ cond b (get_or xs i 0 ∷ []) []) t ∙ append-nil (filter f (take i xs)))
 
 -- one visit further back
-pub traced_back : (tree : List Came) (visit at : ℕ) (came : Came) (path more : List ℕ) → 0 < at → slice_get tree at ≡ Some came → ((front : List ℕ) → Traced tree at front → Traced tree visit (front ++ reverse path)) → more ≡ path ++ came.op ∷ []
-    → (front : List ℕ) → Traced tree came.origin front → Traced tree visit (front ++ reverse more)
-traced_back tree visit at came path more lt read so_far is front t =
-    subst (Traced tree visit)
+pub traced_back : (origins : List Origin) (visit at : ℕ) (came : Origin) (path more : List ℕ) → 0 < at → slice_get origins at ≡ Some came → ((front : List ℕ) → Traced origins at front → Traced origins visit (front ++ reverse path)) → more ≡ path ++ came.op ∷ []
+    → (front : List ℕ) → Traced origins came.origin front → Traced origins visit (front ++ reverse more)
+traced_back origins visit at came path more lt read so_far is front t =
+    subst (Traced origins visit)
     (append_assoc front (came.op ∷ []) (reverse path) ∙ ap (λ (xs : List ℕ). front ++ xs) (sym (ap reverse is ∙ reverse-append path (came.op ∷ []))))
     (so_far (front ++ came.op ∷ []) (later at came front lt read t))
 
-pub traced_whole : (tree : List Came) (visit at : ℕ) (path : List ℕ) → at ≡ 0 → ((front : List ℕ) → Traced tree at front → Traced tree visit (front ++ reverse path)) → Traced tree visit (reverse path)
-traced_whole tree visit at path is so_far = so_far [] (subst (λ (j : ℕ). Traced tree j []) (sym is) first)
+pub traced_whole : (origins : List Origin) (visit at : ℕ) (path : List ℕ) → at ≡ 0 → ((front : List ℕ) → Traced origins at front → Traced origins visit (front ++ reverse path)) → Traced origins visit (reverse path)
+traced_whole origins visit at path is so_far = so_far [] (subst (λ (j : ℕ). Traced origins j []) (sym is) first)

@@ -23,7 +23,7 @@ use Rattle.search_log.proofs.Sound.{Sound, LeadsOn}
 use Rattle.search_log.proofs.LogLaws.{Numbers, lawful_sound, lawful_numbers}
 use Rattle.search_log.proofs.NumberLaws.{counters_fit, costs_fit}
 use Rattle.search_log.proofs.WaitingLaws.{waiting_leads}
-use Rattle.lazy_search.specs.declared.rows.Row.{Row}
+use Rattle.lazy_search.specs.declared.rows.LatestVisit.{LatestVisit}
 use Rattle.lazy_search.specs.declared.machine.Machine.{Machine}
 use Rattle.lazy_search.specs.Machines.{row_of, visit_at, ListsStand, Keeps, Rests, GoesFrom, Reaches}
 
@@ -66,7 +66,7 @@ visit_there phase m words past entry kept g =
 
 pub row_there : (phase : Phase) (m : Machine) (words : List (List ℕ)) (past : Past) (id : ℕ) (n : Node) → Keeps phase m words past → slice_get (latest past.nodes) id ≡ Some n → slice_get m.rows.items id ≡ Some (row_of n)
 row_there phase m words past id n kept at =
-    ap (λ (rs : List Row). slice_get rs id) kept.rows ∙ slice_get-map row_of (latest past.nodes) id ∙ ap (option_map row_of) at
+    ap (λ (rs : List LatestVisit). slice_get rs id) kept.rows ∙ slice_get-map row_of (latest past.nodes) id ∙ ap (option_map row_of) at
 
 pub visit_within : (phase : Phase) (m : Machine) (words : List (List ℕ)) (past : Past) (entry : Entry) → Keeps phase m words past → GoesFrom phase past entry → entry.parent < length m.log.visits
 visit_within phase m words past entry kept g = slice_get_within m.log.visits entry.parent g.parent.visit (visit_there phase m words past entry kept g)
@@ -82,7 +82,7 @@ pub row_within : (phase : Phase) (m : Machine) (words : List (List ℕ)) (past :
 row_within phase m words past entry id kept g is =
     omega (arith, is, slice_get_within m.rows.items g.parent.visit.id (row_of g.from) (row_there phase m words past g.parent.visit.id g.from kept g.at_from))
 
-pub row_read : (phase : Phase) (m : Machine) (words : List (List ℕ)) (past : Past) (entry : Entry) (id : ℕ) (row : Row) → Keeps phase m words past → (g : GoesFrom phase past entry) → id ≡ g.parent.visit.id → row ≡ get_or m.rows.items id row → row ≡ row_of g.from
+pub row_read : (phase : Phase) (m : Machine) (words : List (List ℕ)) (past : Past) (entry : Entry) (id : ℕ) (row : LatestVisit) → Keeps phase m words past → (g : GoesFrom phase past entry) → id ≡ g.parent.visit.id → row ≡ get_or m.rows.items id row → row ≡ row_of g.from
 row_read phase m words past entry id row kept g is read =
     read ∙ ap (λ i. get_or m.rows.items i row) is ∙ get_or_from_slice_get m.rows.items g.parent.visit.id (row_of g.from) row (row_there phase m words past g.parent.visit.id g.from kept g.at_from)
 
@@ -109,9 +109,9 @@ nothing_held lists k items h none = no_entries_none items (λ key. sym (h.queues
 
 -- the machine whose lists a pop has changed
 abbrev pub with_lists : Machine → OpenLists → Machine
-with_lists m lists = record { log = m.log; states = m.states; rows = m.rows; tree = m.tree; lists = lists; least = m.least; chosen = m.chosen; seen = m.seen }
+with_lists m lists = record { log = m.log; states = m.states; rows = m.rows; origins = m.origins; lists = lists; least = m.least; chosen = m.chosen; seen = m.seen }
 
-pub reaches : (phase : Phase) (m : Machine) (past : Past) (popped : Popped) (lists : OpenLists) (v : Visit) (row : Row) (adjusted cost : ℕ) → IsPhase phase → Rests phase m past → Pops m.lists popped lists
+pub reaches : (phase : Phase) (m : Machine) (past : Past) (popped : Popped) (lists : OpenLists) (v : Visit) (row : LatestVisit) (adjusted cost : ℕ) → IsPhase phase → Rests phase m past → Pops m.lists popped lists
     → slice_get m.log.visits popped.entry.parent ≡ Some v → row ≡ get_or m.rows.items v.id row → adjusted ≡ adjusted_cost phase popped.entry.op → cost ≡ cost_at phase.parts popped.entry.op → adjusted < 2 ^ 32 → cost < 2 ^ 32
     → Reaches phase (with_lists m lists) m.states.registry.states past (record { popped = popped; parent = v.id; origin = row.number; g = row.g + adjusted; real = row.real + cost })
 reaches phase m past popped lists v row adjusted cost is rests pops read_visit read_row read_adjusted read_cost small_adjusted small_cost =
@@ -121,16 +121,16 @@ reaches phase m past popped lists v row adjusted cost is rests pops read_visit r
     let id = parent_read phase m m.states.registry.states past popped.entry v k g read_visit in
     let r = row_read phase m m.states.registry.states past popped.entry v.id row k g id read_row in
     let c = costs_small phase past popped.entry is sound g in
-    let gg : row.g ≡ g.from.place.g = ap (λ (x : Row). x.g) r in
-    let real : row.real ≡ g.from.place.real = ap (λ (x : Row). x.real) r in
+    let gg : row.g ≡ g.from.place.g = ap (λ (x : LatestVisit). x.g) r in
+    let real : row.real ≡ g.from.place.real = ap (λ (x : LatestVisit). x.real) r in
     record {
-      kept = record { logged = k.logged; visits = k.visits; pops = k.pops; ready = k.ready; most = k.most; stored = k.stored; rows = k.rows; tree = k.tree; least = k.least };
+      kept = record { logged = k.logged; visits = k.visits; pops = k.pops; ready = k.ready; most = k.most; stored = k.stored; rows = k.rows; origins = k.origins; least = k.least };
       lists = m.lists;
       stood = rests.lists;
       pops = pops;
       goes = g;
       parent = id;
-      origin = ap (λ (x : Row). x.number) r;
+      origin = ap (λ (x : LatestVisit). x.number) r;
       g = omega (arith, gg, read_adjusted);
       real = omega (arith, real, read_cost);
       small = (omega (arith, c.0, gg, small_adjusted), omega (arith, c.1, real, small_cost));

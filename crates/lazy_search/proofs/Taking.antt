@@ -31,16 +31,16 @@ use Rattle.search_log.proofs.LogLaws.{logged_bare}
 use Rattle.search_log.proofs.SpaceLaws.{few_lists}
 use Rattle.std.specs.Prelude.{Vec}
 use Rattle.std.specs.declared.alloc.Global.{Global}
-use Rattle.lazy_search.specs.declared.rows.Row.{Row}
-use Rattle.lazy_search.specs.declared.paths.Came.{Came}
+use Rattle.lazy_search.specs.declared.rows.LatestVisit.{LatestVisit}
+use Rattle.lazy_search.specs.declared.paths.Origin.{Origin}
 use Rattle.lazy_search.specs.declared.states.States.{States}
 use Rattle.lazy_search.specs.States.{AreFor}
 use Rattle.lazy_search.specs.declared.machine.Machine.{Machine}
-use Rattle.lazy_search.specs.declared.machine.Reached.{Reached}
+use Rattle.lazy_search.specs.declared.steps.Reached.{Reached}
 use Rattle.lazy_search.specs.Outcomes.{pop_by, PopsOne}
-use Rattle.lazy_search.specs.declared.machine.Decision.TheVariants as decision
-use Rattle.lazy_search.specs.declared.machine.Turned.TheVariants.{Empty, Done, AtFull}
-use Rattle.lazy_search.specs.Machines.{past_in, packed_at, TreeStands, ListsStand, Rests, GoesFrom, place_there, Reaches, Arrives, IsGuided, AfterTurn}
+use Rattle.lazy_search.specs.declared.steps.Decision.TheVariants as decision
+use Rattle.lazy_search.specs.declared.steps.Turned.TheVariants.{Empty, Done, AtFull}
+use Rattle.lazy_search.specs.Machines.{past_in, packed_at, OriginsStand, ListsStand, Rests, GoesFrom, place_there, Reaches, Arrives, IsGuided, AfterTurn}
 use Rattle.lazy_search.proofs.Reaching.{sound_of}
 
 -- where a pop of an entry leads
@@ -122,7 +122,7 @@ pub record Stays (m new : Machine) (pop : Pop) : Type 0 where
   pub pops : new.log.pops ≡ m.log.pops ++ pop ∷ []
   pub states : new.states ≡ m.states
   pub rows : new.rows ≡ m.rows
-  pub tree : new.tree ≡ m.tree
+  pub origins : new.origins ≡ m.origins
   pub lists : new.lists ≡ m.lists
   pub least : new.least ≡ m.least
 
@@ -148,8 +148,8 @@ rests_bare phase m new words past r outcome is R on allowed same_words bars resu
         ready = subst (λ (s : States). AreFor s phase.parts) (sym st.states) k.ready;
         most = ap (λ (s : States). s.registry.most) st.states ∙ k.most;
         stored = ap (λ (s : States). s.registry.states) st.states ∙ same_words ∙ k.stored ∙ ap (λ (s : States). map (packed_at s.registry.layout) (latest past.nodes)) (sym st.states);
-        rows = ap (λ (rs : Vec Row Global). rs.items) st.rows ∙ k.rows;
-        tree = subst (λ (cs : Vec Came Global). TreeStands past.nodes cs.items) (sym st.tree) k.tree;
+        rows = ap (λ (rs : Vec LatestVisit Global). rs.items) st.rows ∙ k.rows;
+        origins = subst (λ (cs : Vec Origin Global). OriginsStand past.nodes cs.items) (sym st.origins) k.origins;
         least = subst (λ (ls : List ℕ). LeastStand phase ls past.nodes) (sym st.least) k.least;
       };
       lists = subst (λ (ls : OpenLists). ListsStand phase ls (past_bare past r outcome)) (sym st.lists) lists;

@@ -29,11 +29,11 @@ use Rattle.search_log.proofs.NumberLaws.{counters_fit}
 use Rattle.search_log.proofs.TurnLaws.{past_with, extend_made}
 use Rattle.search_log.proofs.LogLaws.{Numbers, logged_made}
 use Rattle.search_log.proofs.SoundLaws.{sound_pop}
-use Rattle.lazy_search.specs.declared.rows.Row.{Row}
+use Rattle.lazy_search.specs.declared.rows.LatestVisit.{LatestVisit}
 use Rattle.lazy_search.specs.declared.shape.Shape.{Shape}
-use Rattle.lazy_search.specs.declared.turns.Arrival.{Arrival}
+use Rattle.lazy_search.specs.declared.steps.Arrival.{Arrival}
 use Rattle.lazy_search.specs.declared.machine.Machine.{Machine}
-use Rattle.lazy_search.specs.declared.machine.Reached.{Reached}
+use Rattle.lazy_search.specs.declared.steps.Reached.{Reached}
 use Rattle.lazy_search.specs.States.{AreFor}
 use Rattle.lazy_search.specs.Rows.{row_put}
 use Rattle.lazy_search.specs.Entries.{is_less}
@@ -42,9 +42,10 @@ use Rattle.relaxed_task.specs.Reached.{IsDead}
 use Rattle.open_lists.specs.declared.entry.Entry.{Entry}
 use Rattle.lazy_search.specs.Outcomes.{pop_by, outcome_of, turned_by}
 use Rattle.lazy_search.specs.Visits.{row_for, Grows}
-use Rattle.lazy_search.specs.Machines.{phase_of, row_of, packed_at, visit_at, TreeStands, ListsStand, Keeps, Rests, GoesFrom, place_there, Reaches, IsVisited, IsGuided, TurnEnds}
+use Rattle.lazy_search.specs.Machines.{row_of, packed_at, visit_at, OriginsStand, ListsStand, Keeps, Rests, GoesFrom, place_there, Reaches, IsVisited, IsGuided, TurnEnds}
+use Rattle.lazy_search.specs.Phases.{phase_of}
 use Rattle.lazy_search.proofs.Reaching.{sound_of}
-use Rattle.lazy_search.proofs.Growing.{Grown, grown_expanded, grown_still, lists_visited, tree_visited, rows_visited}
+use Rattle.lazy_search.proofs.Growing.{Grown, grown_expanded, grown_still, lists_visited, origins_visited, rows_visited}
 use Rattle.lazy_search.proofs.Taking.{goes_reached, next_turn, lists_popped}
 use Rattle.lama_num.proofs.BoolLaws.{and-false}
 
@@ -58,7 +59,7 @@ pub record Noted (parts : Parts) (setting : Setting) (shape : Shape) (m : Machin
   pub ready : AreFor new.states parts
   pub registry : new.states.registry ≡ m.states.registry
   pub rows : new.rows.items ≡ row_put m.rows.items arrival.id (row_for m arrival seen.dead)
-  pub tree : new.tree.items ≡ m.tree.items ++ arrival.came ∷ []
+  pub origins : new.origins.items ≡ m.origins.items ++ arrival.came ∷ []
   pub grows : Grows parts setting shape (row_for m arrival seen.dead) seen (applicable_operators parts m.states.next.items) m.lists m.least (not seen.dead && not arrival.is_goal) new.lists new.least
 
 pub makes_outcome : (again dead goal : Bool) → makes_visit (outcome_of again dead goal) ≡ true
@@ -73,11 +74,11 @@ not_full_outcome true false goal = refl
 not_full_outcome false false true = refl
 not_full_outcome false false false = refl
 
-same_row : (g g2 x x2 n n2 : ℕ) (d : Bool) → g ≡ g2 → x ≡ x2 → n ≡ n2 → record { g = g; real = x; number = n; dead = d } ≡ (let r : Row = record { g = g2; real = x2; number = n2; dead = d } in r)
+same_row : (g g2 x x2 n n2 : ℕ) (d : Bool) → g ≡ g2 → x ≡ x2 → n ≡ n2 → record { g = g; real = x; number = n; dead = d } ≡ (let r : LatestVisit = record { g = g2; real = x2; number = n2; dead = d } in r)
 same_row g g2 x x2 n n2 d a b c =
-    ap (λ (y : ℕ). let r : Row = record { g = y; real = x; number = n; dead = d } in r) a
-    ∙ ap (λ (y : ℕ). let r : Row = record { g = g2; real = y; number = n; dead = d } in r) b
-    ∙ ap (λ (y : ℕ). let r : Row = record { g = g2; real = x2; number = y; dead = d } in r) c
+    ap (λ (y : ℕ). let r : LatestVisit = record { g = y; real = x; number = n; dead = d } in r) a
+    ∙ ap (λ (y : ℕ). let r : LatestVisit = record { g = g2; real = y; number = n; dead = d } in r) b
+    ∙ ap (λ (y : ℕ). let r : LatestVisit = record { g = g2; real = x2; number = y; dead = d } in r) c
 
 grown_by : (parts : Parts) (setting : Setting) (shape : Shape) (old new : OpenLists) (least new_least operators : List ℕ) (n : Node) (b : Bool) → is_expanded (phase_of parts setting shape) n.visit n.place ≡ b
     → operators ≡ applicable_operators parts n.place.state → n.visit.seen.preferred ≡ filter (is_among n.visit.seen.preferred) operators
@@ -98,7 +99,7 @@ noted_grows parts setting shape m new arrival seen pops nodes to noted next leas
     (ap (applicable_operators parts) next)
     noted.preferred
     (progress_by_least phase m.least nodes v to least noted.small)
-    (subst (λ (r : Row). Grows parts setting shape r seen (applicable_operators parts m.states.next.items) m.lists m.least (not seen.dead && not arrival.is_goal) new.lists new.least) row noted.grows)
+    (subst (λ (r : LatestVisit). Grows parts setting shape r seen (applicable_operators parts m.states.next.items) m.lists m.least (not seen.dead && not arrival.is_goal) new.lists new.least) row noted.grows)
   where
     phase : Phase
     phase = phase_of parts setting shape
@@ -140,10 +141,10 @@ rests_visited parts setting shape m new words past r id again goal seen is R V o
             ∙ ap (map (packed_at m.states.registry.layout)) (sym (latest-push past.nodes n))
             ∙ ap (λ (g : Visits). map (packed_at g.layout) (latest (past.nodes ++ n ∷ []))) (sym noted.registry);
         rows =
-            noted.rows ∙ ap (λ (rs : List Row). row_put rs id (row_for m arrival seen.dead)) k.rows ∙ ap (row_put (map row_of (latest past.nodes)) id) row
+            noted.rows ∙ ap (λ (rs : List LatestVisit). row_put rs id (row_for m arrival seen.dead)) k.rows ∙ ap (row_put (map row_of (latest past.nodes)) id) row
             ∙ sym (rows_visited (latest past.nodes) n) ∙ ap (map row_of) (sym (latest-push past.nodes n));
-        tree = subst (TreeStands (past.nodes ++ n ∷ [])) (sym noted.tree)
-            (tree_visited past.nodes m.tree.items n (record { origin = r.origin; op = r.popped.entry.op }) R.goes.from k.tree sound.begun
+        origins = subst (OriginsStand (past.nodes ++ n ∷ [])) (sym noted.origins)
+            (origins_visited past.nodes m.origins.items n (record { origin = r.origin; op = r.popped.entry.op }) R.goes.from k.origins sound.begun
             (ap (slice_get past.nodes) R.origin ∙ sound.visits R.goes.parent.visit.id R.goes.from R.goes.at_from) refl);
         least = least_visited phase m.least new.least past.nodes n k.least grown.kept;
       };
@@ -180,7 +181,7 @@ rests_visited parts setting shape m new words past r id again goal seen is R V o
     sound = sound_of phase m.log.visits m.log.pops past is k.logged
 
     row : row_for m arrival seen.dead ≡ row_of n
-    row = same_row r.g to.g r.real to.real (length m.tree.items) (length past.nodes) seen.dead R.g R.real k.tree.count
+    row = same_row r.g to.g r.real to.real (length m.origins.items) (length past.nodes) seen.dead R.g R.real k.origins.count
 
     grown : Grown phase m.lists m.least n new.lists new.least
     grown = noted_grows parts setting shape m new arrival seen (m.log.pops ++ pop ∷ []) past.nodes to noted V.next k.least row

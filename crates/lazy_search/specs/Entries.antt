@@ -10,7 +10,7 @@ use Rattle.guide.specs.declared.seen.Seen.{Seen}
 use Rattle.search_log.specs.declared.setting.Setting.{Setting}
 use Rattle.lama_num.specs.Bounds.{is_below}
 use Rattle.search_log.specs.Pending.{key_by}
-use Rattle.lazy_search.specs.declared.rows.Row.{Row}
+use Rattle.lazy_search.specs.declared.rows.LatestVisit.{LatestVisit}
 use Rattle.lazy_search.specs.declared.shape.Shape.{Shape}
 use Rattle.lazy_search.specs.Shapes.{lists_by, guide_by, is_preferred_by}
 
@@ -19,7 +19,7 @@ abbrev pub operators_below : Parts → Option ℕ → ℕ → List ℕ → List 
 operators_below parts bound real operators = filter (λ op. is_below bound (real + cost_at parts op)) operators
 
 -- what a visit puts into a list: its operators, or the preferred ones
-abbrev pub puts_in : Setting → Shape → Row → List ℕ → List ℕ → List ℕ → ℕ → List Item
+abbrev pub puts_in : Setting → Shape → LatestVisit → List ℕ → List ℕ → List ℕ → ℕ → List Item
 puts_in setting shape row estimates all preferred list =
     items_of_visit (key_by setting.weight row.g (slice_index estimates (guide_by shape list))) row.number (if is_preferred_by shape list then preferred else all)
 
@@ -35,7 +35,7 @@ abbrev pub is_less : ℕ → List ℕ → List ℕ → Bool
 is_less guides least estimates = list_any (λ j. nat_lt (slice_index estimates j) (slice_index least j)) (range_with_len 0 guides)
 
 -- What becomes of the lists and of the least estimates where a visit is expanded.
-pub record Expands (parts : Parts) (setting : Setting) (shape : Shape) (row : Row) (seen : Seen) (applicable : List ℕ) (old : OpenLists) (least : List ℕ) (new : OpenLists) (new_least : List ℕ) : Type 0 where
+pub record Expands (parts : Parts) (setting : Setting) (shape : Shape) (row : LatestVisit) (seen : Seen) (applicable : List ℕ) (old : OpenLists) (least : List ℕ) (new : OpenLists) (new_least : List ℕ) : Type 0 where
   pub put : (k : ℕ) (items : List Item) → k < lists_by shape → Holds old k items → Holds new k
       (items ++ puts_in setting shape row seen.estimates (operators_below parts setting.bound row.real applicable) (operators_below parts setting.bound row.real seen.preferred) k)
   pub counters : (k : ℕ) → counter new k ≡ (if is_preferred old k && is_less shape.guides least seen.estimates then counter old k -ℤ pos (boost_of old) else counter old k)

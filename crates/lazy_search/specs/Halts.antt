@@ -9,16 +9,8 @@ use Rattle.search_log.specs.Phases.{Phase}
 use Rattle.search_log.specs.Places.{Node, Past}
 use Rattle.search_log.specs.Ends.{EndsInGoal, EndsExhausted, EndsAtLimit}
 use Rattle.search_log.specs.Clocks.{is_late, moment_of}
-use Rattle.search_log.specs.declared.setting.Setting.{Setting}
-use Rattle.search_log.specs.Logs.{Content}
-use Rattle.search_log.specs.Members.{Member}
-use Rattle.lazy_search.specs.declared.end.SearchEnd.{SearchEnd}
-use Rattle.lazy_search.specs.declared.end.SearchEnd.TheVariants as ends
-use Rattle.lazy_search.specs.declared.phase.Found.{Found}
-use Rattle.lazy_search.specs.declared.phase.Found.TheVariants.{Plan, Space, Limit}
-use Rattle.lazy_search.specs.Ends.{EndsInPlan, EndsInSpace, past_by}
-use Rattle.lazy_search.specs.declared.phase.Halt.{Halt}
-use Rattle.lazy_search.specs.declared.phase.Halt.TheVariants.{AtGoal, Exhausted, AtLimit}
+use Rattle.lazy_search.specs.declared.searching.Halt.{Halt}
+use Rattle.lazy_search.specs.declared.searching.Halt.TheVariants.{AtGoal, Exhausted, AtLimit}
 use Rattle.lazy_search.specs.declared.machine.Machine.{Machine}
 use Rattle.lazy_search.specs.Machines.{Rests, IsGuided}
 
@@ -48,26 +40,3 @@ Asks (Some stop) before after hit = (moment : ℕ) × Answers before after momen
 -- the moment of a limit, if time is one
 abbrev pub moment_in : Option LimitHit → Option ℕ
 moment_in hit = option_and_then moment_of hit
-
--- What is found, by why the search halts.
-abbrev pub Finds : Phase → Content → Halt → Found → Type 0
-Finds phase log AtGoal (Plan ops cost) = EndsInPlan phase ops cost log
-Finds phase log AtGoal (Space space) = ⊥
-Finds phase log AtGoal (Limit hit) = ⊥
-Finds phase log Exhausted (Space space) = EndsInSpace phase space log
-Finds phase log Exhausted (Plan ops cost) = ⊥
-Finds phase log Exhausted (Limit hit) = ⊥
-Finds phase log (AtLimit own) (Limit hit) = (hit ≡ own) × EndsAtLimit phase (past_by phase log) hit
-Finds phase log (AtLimit own) (Plan ops cost) = ⊥
-Finds phase log (AtLimit own) (Space space) = ⊥
-
--- the answer with a space: without a bound there is no plan
-abbrev pub space_end : Option ℕ → List Member → Content → SearchEnd
-space_end None space log = ends.Unsolvable space log
-space_end (Some bound) space log = ends.Unsolved space log
-
--- the answer with what was found
-abbrev pub end_with : Setting → Found → Content → SearchEnd
-end_with setting (Plan ops cost) log = ends.Plan ops cost log
-end_with setting (Limit hit) log = ends.Limit hit log
-end_with setting (Space space) log = space_end setting.bound space log

@@ -1,10 +1,12 @@
 pub mod States
 pub mod Rows
 pub mod Shapes
-pub mod Trees
+pub mod Origins
 pub mod Entries
 pub mod Outcomes
 pub mod Machines
 pub mod Visits
 pub mod Ends
 pub mod Halts
+pub mod Phases
+pub mod Seen

@@ -8,7 +8,6 @@ use Rattle.open_lists.specs.declared.lists.OpenLists.{OpenLists}
 use Rattle.open_lists.specs.declared.entry.Entry.{Entry}
 use Rattle.open_lists.specs.Lists.{list_count, is_preferred, boost_of, counter as counter_now, Holds, Pops}
 use Rattle.guide.specs.declared.seen.Seen.{Seen}
-use Rattle.search_log.specs.declared.setting.Setting.{Setting}
 use Rattle.search_log.specs.Logs.{Visit}
 use Rattle.search_log.specs.Phases.{Phase, lists_of, is_for_preferred, adjusted_cost}
 use Rattle.search_log.specs.Places.{Place, Node, Past, latest, put_latest, id_of, place_by, past_of}
@@ -18,27 +17,23 @@ use Rattle.search_log.specs.Ends.{EndsInGoal, EndsExhausted, EndsFull}
 use Rattle.search_log.specs.Guided.{AllFit, TellsDead}
 use Rattle.search_log.specs.Counters.{LeastStand}
 use Rattle.search_log.specs.declared.turns.PopResult.TheVariants.{Known as IsKnown, Full as IsFull}
-use Rattle.lazy_search.specs.declared.shape.Shape.{Shape}
-use Rattle.lazy_search.specs.declared.rows.Row.{Row}
-use Rattle.lazy_search.specs.declared.paths.Came.{Came}
+use Rattle.lazy_search.specs.declared.rows.LatestVisit.{LatestVisit}
+use Rattle.lazy_search.specs.declared.paths.Origin.{Origin}
 use Rattle.lazy_search.specs.declared.machine.Machine.{Machine}
-use Rattle.lazy_search.specs.declared.machine.Reached.{Reached}
-use Rattle.lazy_search.specs.declared.machine.Decision.{Decision}
-use Rattle.lazy_search.specs.declared.machine.Decision.TheVariants.{Known, Full, New, Again}
-use Rattle.lazy_search.specs.declared.machine.Turned.{Turned}
-use Rattle.lazy_search.specs.declared.machine.Turned.TheVariants.{Empty, Done, AtGoal, AtFull}
+use Rattle.lazy_search.specs.declared.steps.Reached.{Reached}
+use Rattle.lazy_search.specs.declared.steps.Decision.{Decision}
+use Rattle.lazy_search.specs.declared.steps.Decision.TheVariants.{Known, Full, New, Again}
+use Rattle.lazy_search.specs.declared.steps.Turned.{Turned}
+use Rattle.lazy_search.specs.declared.steps.Turned.TheVariants.{Empty, Done, AtGoal, AtFull}
 use Rattle.lazy_search.specs.States.{AreFor}
 use Rattle.lazy_search.specs.Outcomes.{outcome_of}
-
-abbrev pub phase_of : Parts → Setting → Shape → Phase
-phase_of parts setting shape = record { parts = parts; setting = setting; guides = shape.guides; preferring = shape.preferring }
 
 -- the past that a machine's log tells
 abbrev pub past_in : Phase → Machine → Past
 past_in phase m = past_of phase m.log.visits m.log.pops
 
 -- the row of a state, by its latest visit
-abbrev pub row_of : Node → Row
+abbrev pub row_of : Node → LatestVisit
 row_of n = record { g = n.place.g; real = n.place.real; number = n.number; dead = n.visit.seen.dead }
 
 -- the words of a visit's state
@@ -49,18 +44,18 @@ abbrev pub visit_at : Node → Visit
 visit_at n = n.visit
 
 -- a visit came from an earlier one, by an operator
-pub record ComesFrom (nodes : List Node) (tree : List Came) (j : ℕ) (n : Node) : Type 0 where
-  pub came : Came
+pub record ComesFrom (nodes : List Node) (origins : List Origin) (j : ℕ) (n : Node) : Type 0 where
+  pub came : Origin
   pub origin : Node
-  pub in_tree : slice_get tree j ≡ Some came
+  pub in_origins : slice_get origins j ≡ Some came
   pub earlier : came.origin < j
   pub at : slice_get nodes came.origin ≡ Some origin
   pub path : n.place.path ≡ origin.place.path ++ came.op ∷ []
 
-pub record TreeStands (nodes : List Node) (tree : List Came) : Type 0 where
-  pub count : length tree ≡ length nodes
+pub record OriginsStand (nodes : List Node) (origins : List Origin) : Type 0 where
+  pub count : length origins ≡ length nodes
   pub first : (n : Node) → slice_get nodes 0 ≡ Some n → n.place.path ≡ []
-  pub later : (j : ℕ) (n : Node) → 0 < j → slice_get nodes j ≡ Some n → ComesFrom nodes tree j n
+  pub later : (j : ℕ) (n : Node) → 0 < j → slice_get nodes j ≡ Some n → ComesFrom nodes origins j n
 
 -- The open lists are those of a past.
 pub record ListsStand (phase : Phase) (lists : OpenLists) (past : Past) : Type 0 where
@@ -79,7 +74,7 @@ pub record Keeps (phase : Phase) (m : Machine) (words : List (List ℕ)) (past :
   pub most : m.states.registry.most ≡ phase.setting.most_states
   pub stored : words ≡ map (packed_at m.states.registry.layout) (latest past.nodes)
   pub rows : m.rows.items ≡ map row_of (latest past.nodes)
-  pub tree : TreeStands past.nodes m.tree.items
+  pub origins : OriginsStand past.nodes m.origins.items
   pub least : LeastStand phase m.least past.nodes
 
 pub record Rests (phase : Phase) (m : Machine) (past : Past) : Type 0 where

@@ -5,8 +5,8 @@ use Rattle.search_log.specs.declared.turns.Pop.{Pop}
 use Rattle.search_log.specs.declared.turns.PopResult.{PopResult}
 use Rattle.search_log.specs.declared.turns.PopResult.TheVariants.{Known, Dead, Goal, Visited, Again, Full}
 use Rattle.search_log.specs.Clocks.{is_final}
-use Rattle.lazy_search.specs.declared.machine.Turned.{Turned}
-use Rattle.lazy_search.specs.declared.machine.Turned.TheVariants.{Empty, Done, AtGoal, AtFull}
+use Rattle.lazy_search.specs.declared.steps.Turned.{Turned}
+use Rattle.lazy_search.specs.declared.steps.Turned.TheVariants.{Empty, Done, AtGoal, AtFull}
 
 -- the entry as the log tells it
 abbrev pub pop_by : Popped → PopResult → Pop

@@ -9,7 +9,7 @@ ghost use Rattle.search_log.specs.Pending.{key_by};
 ghost use Rattle.lazy_search.specs.Shapes.{lists_by};
 ghost use Rattle.lazy_search.specs.Entries.{puts_in, Puts, Expands, operators_below, is_less};
 
-use crate::rows::Row;
+use crate::rows::LatestVisit;
 use crate::shape::Shape;
 use guide::Seen;
 use lama_num::{NoMemory, is_below};
@@ -71,7 +71,7 @@ fn put_all(
     lists: &mut OpenLists,
     setting: &Setting,
     shape: Shape,
-    row: Row,
+    row: LatestVisit,
     estimates: &[u32; 3],
     chosen: &Chosen,
 ) -> Result<(), NoMemory>
@@ -136,7 +136,7 @@ pub(crate) fn expand(
     task: &Task,
     setting: &Setting,
     shape: Shape,
-    row: Row,
+    row: LatestVisit,
     seen: &Seen,
     applicable: &[u32],
 ) -> Result<(), NoMemory>

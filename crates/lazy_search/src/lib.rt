@@ -1,4 +1,7 @@
-//! Lazy search.
+//! Lazy best-first search of one phase, with several guides and preferred operators, after Richter and
+//! Westphal, "The LAMA Planner" (2010).
+//!
+//! `specs/Ends` says what an answer means, by the log that `search_log` speaks of.
 #![tactic(auto)]
 
 mod end;
@@ -8,9 +11,10 @@ mod outcomes;
 mod paths;
 mod phase;
 mod rows;
+mod searching;
 mod shape;
 mod states;
-mod turns;
+mod steps;
 
 pub use end::SearchEnd;
-pub use phase::search;
+pub use searching::search;

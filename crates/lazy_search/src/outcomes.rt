@@ -3,7 +3,7 @@ ghost use Rattle.std.specs.Prelude.{◌≡◌};
 ghost use Rattle.lazy_search.specs.Outcomes.{pop_by as the_pop, outcome_of as the_outcome};
 ghost use Rattle.lazy_search.specs.Outcomes.{turned_by as the_turned};
 
-use crate::machine::Turned;
+use crate::steps::Turned;
 use open_lists::Popped;
 use search_log::{Pop, PopResult};
 

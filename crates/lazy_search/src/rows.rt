@@ -8,7 +8,7 @@ use search_log::Setting;
 
 /// What stands for a state: its latest visit.
 #[derive(Clone, Copy)]
-pub(crate) struct Row {
+pub(crate) struct LatestVisit {
     /// What it cost to reach by the kind of cost.
     pub g: u64,
     /// What it really cost to reach.
@@ -19,7 +19,11 @@ pub(crate) struct Row {
 }
 
 /// Puts the row of a state, which is the next one or stands there.
-pub(crate) fn put_row(rows: &mut Vec<Row>, id: u32, row: Row) -> Result<(), NoMemory>
+pub(crate) fn put_latest_visit(
+    rows: &mut Vec<LatestVisit>,
+    id: u32,
+    row: LatestVisit,
+) -> Result<(), NoMemory>
     requires { id ≤ vec_len rows.old }
     ensures { OnOk result (rows.new.items ≡ row_put rows.old.items id row) }
 {
@@ -32,7 +36,7 @@ pub(crate) fn put_row(rows: &mut Vec<Row>, id: u32, row: Row) -> Result<(), NoMe
 }
 
 /// Whether a known state is visited again.
-pub(crate) fn reopens(setting: &Setting, row: Row, g: u64) -> bool
+pub(crate) fn reopens(setting: &Setting, row: LatestVisit, g: u64) -> bool
     ensures { result ≡ (setting.now.reopen && (not row.dead && nat_lt g row.g)) }
 {
     setting.reopen && !row.dead && g < row.g

@@ -7,12 +7,12 @@ use Rattle.lazy_search.proofs.machine.Machine.blank.Goals as goal
 
 pub new-requires : goal.new-requires
 new-requires c =
-    let is : c.deref.result.now ≡ map (is_preferred_by c.args.shape) (range_with_len 0 (lists_by c.args.shape)) = c.deref.ensures.value ∙ c.in_ok-sorts.ensures in
-    omega (arith, few_sorts c.args.shape c.requires, ap length is, length-map-range_with_len (is_preferred_by c.args.shape) 0 (lists_by c.args.shape))
+    let is : c.deref.result.now ≡ map (is_preferred_by c.args.phase.now.shape) (range_with_len 0 (lists_by c.args.phase.now.shape)) = c.deref.ensures.value ∙ c.in_ok-sorts.ensures in
+    omega (arith, few_sorts c.args.phase.now.shape c.args.phase.now.is_phase.few_guides, ap length is, length-map-range_with_len (is_preferred_by c.args.phase.now.shape) 0 (lists_by c.args.phase.now.shape))
 
 pub returns : goal.returns
 returns c =
-    let shape = c.args.shape in
+    let shape = c.args.phase.now.shape in
     let is : c.deref.result.now ≡ map (is_preferred_by shape) (range_with_len 0 (lists_by shape)) = c.deref.ensures.value ∙ c.in_ok-sorts.ensures in
     let ls = c.in_ok-lists.ensures in
     let ss = c.in_ok-states.ensures in
@@ -23,7 +23,7 @@ returns c =
       words = ss.states;
       most = ss.most;
       rows = c.new-4.ensures.items;
-      tree = c.new-5.ensures.items;
+      origins = c.new-5.ensures.items;
       count = ls.count ∙ ap length is ∙ length-map-range_with_len (is_preferred_by shape) 0 (lists_by shape);
       empty = ls.empty;
       counters = ls.counters;

@@ -15,24 +15,24 @@ returns-then-self c =
       | then-self-via-then-self w ↦ ap (λ (d : Bool). not d && not a.is_goal) w.if-self.true
       | then-self-via-else-self+then-arrival w ↦ ap (λ (x : Bool). not m.seen.dead && not x) w.if-arrival.true ∙ and-false (not m.seen.dead)
     ] in
-    keeps_visit c.args.task.now c.args.setting.now c.args.shape m a _ c.len-number.result (c.len-number.ensures ∙ m.tree.ok.0) (omega arith) c.are_short.ensures
-    c.in_ok-put_row.ensures c.in_ok-push.ensures.items c.in_ok-push_visit.ensures.visits c.in_ok-push_visit.ensures.pops refl
-    (subst (λ (b : Bool). Grows c.args.task.now c.args.setting.now c.args.shape (numbered_row m a c.len-number.result) m.seen m.states.applicable.items m.lists m.least b m.lists m.least) (sym closed) (refl, refl))
+    keeps_visit c.args.phase.now.task.now c.args.phase.now.setting.now c.args.phase.now.shape m a _ c.len-number.result (c.len-number.ensures ∙ m.origins.ok.0) (omega arith) c.are_short.ensures
+    c.in_ok-put_latest_visit.ensures c.in_ok-push.ensures.items c.in_ok-push_visit.ensures.visits c.in_ok-push_visit.ensures.pops refl
+    (subst (λ (b : Bool). Grows c.args.phase.now.task.now c.args.phase.now.setting.now c.args.phase.now.shape (numbered_row m a c.len-number.result) m.seen m.states.applicable.items m.lists m.least b m.lists m.least) (sym closed) (refl, refl))
 
 pub returns : goal.returns
 returns c =
     let m = c.args.self.now in
     let a = c.args.arrival in
     let row = numbered_row m a c.len-number.result in
-    on_ok (Expands c.args.task.now c.args.setting.now c.args.shape row m.seen c.deref.result.now m.lists m.least c.expand.new.lists c.expand.new.least) _ c.expand.result
-    (λ e. keeps_visit c.args.task.now c.args.setting.now c.args.shape m a _ c.len-number.result (c.len-number.ensures ∙ m.tree.ok.0) (omega arith) c.are_short.ensures
-    c.in_ok-put_row.ensures c.in_ok-push.ensures.items c.in_ok-push_visit.ensures.visits c.in_ok-push_visit.ensures.pops refl
-    (subst (λ (b : Bool). Grows c.args.task.now c.args.setting.now c.args.shape row m.seen m.states.applicable.items m.lists m.least b c.expand.new.lists c.expand.new.least) (sym (opened m.seen.dead a.is_goal c.if-self.false c.if-arrival.false))
-    (subst (λ (ops : List ℕ). Expands c.args.task.now c.args.setting.now c.args.shape row m.seen ops m.lists m.least c.expand.new.lists c.expand.new.least) c.deref.ensures.value e)))
+    on_ok (Expands c.args.phase.now.task.now c.args.phase.now.setting.now c.args.phase.now.shape row m.seen c.deref.result.now m.lists m.least c.expand.new.lists c.expand.new.least) _ c.expand.result
+    (λ e. keeps_visit c.args.phase.now.task.now c.args.phase.now.setting.now c.args.phase.now.shape m a _ c.len-number.result (c.len-number.ensures ∙ m.origins.ok.0) (omega arith) c.are_short.ensures
+    c.in_ok-put_latest_visit.ensures c.in_ok-push.ensures.items c.in_ok-push_visit.ensures.visits c.in_ok-push_visit.ensures.pops refl
+    (subst (λ (b : Bool). Grows c.args.phase.now.task.now c.args.phase.now.setting.now c.args.phase.now.shape row m.seen m.states.applicable.items m.lists m.least b c.expand.new.lists c.expand.new.least) (sym (opened m.seen.dead a.is_goal c.if-self.false c.if-arrival.false))
+    (subst (λ (ops : List ℕ). Expands c.args.phase.now.task.now c.args.phase.now.setting.now c.args.phase.now.shape row m.seen ops m.lists m.least c.expand.new.lists c.expand.new.least) c.deref.ensures.value e)))
     c.expand.ensures
 
 pub overflow_cast-row : goal.overflow_cast-row
 overflow_cast-row c = record { fits = omega arith }
 
-pub put_row-requires : goal.put_row-requires
-put_row-requires c = omega (arith, c.requires.id, c.args.self.now.rows.ok.0)
+pub put_latest_visit-requires : goal.put_latest_visit-requires
+put_latest_visit-requires c = omega (arith, c.requires.id, c.args.self.now.rows.ok.0)

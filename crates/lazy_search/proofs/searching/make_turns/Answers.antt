@@ -2,17 +2,17 @@ use Rattle.std.proofs.Common.{◌≡◌, ◌+◌, ◌%◌, ℕ, false, List, len
 use Rattle.std.proofs.lemmas.Bool.{both_ways}
 use Rattle.search_log.specs.declared.turns.Pop.{Pop}
 use Rattle.search_log.specs.Clocks.{unfinal}
-use Rattle.lazy_search.specs.declared.machine.Turned.TheVariants.{Empty, Done, AtGoal, AtFull}
-use Rattle.lazy_search.specs.Machines.{phase_of}
+use Rattle.lazy_search.specs.declared.steps.Turned.TheVariants.{Empty, Done, AtGoal, AtFull}
+use Rattle.lazy_search.specs.Phases.{phase_of}
 use Rattle.lazy_search.specs.Ends.{IsAnswered}
 use Rattle.lazy_search.proofs.Clocking.{tells_same, tells_then, answered_final, asked_after, between_from, unfinal_one, length_one}
 use Rattle.lazy_search.proofs.Halting.{halts_empty, halts_goal, halts_full, halts_time, halts_done, halts_pops, same_both, after_is, pops_are, over_after}
 use Rattle.lazy_search.proofs.Ending.{lists_empty, exhausted_now, ends_at_pops}
-use Rattle.lazy_search.proofs.phase.run.Goals as goal
+use Rattle.lazy_search.proofs.searching.make_turns.Goals as goal
 
 pub loop-turn-init : goal.loop-turn-init
 loop-turn-init g c =
-    let phase = phase_of c.args.task.now c.args.setting.now c.args.shape in
+    let phase = phase_of c.args.phase.now.task.now c.args.phase.now.setting.now c.args.phase.now.shape in
     let none = c.requires.pops in
     record {
       stands = c.requires.stands;
@@ -27,7 +27,6 @@ loop-turn-init g c =
 
 pub turn-requires : goal.turn-requires
 turn-requires g c = record {
-  phase = c.requires.phase;
   stands = c.loop-turn.invariant.stands;
   allowed = omega (arith, c.loop-turn.invariant.count, c.loop-turn-test.true);
   same_task = c.loop-turn.invariant.same_task;
@@ -41,9 +40,9 @@ returns-in_err-turn-clause-tells g c = c.loop-turn.invariant.tells
 
 pub returns-in-Empty : goal.returns-in-Empty
 returns-in-Empty g c =
-    let phase = phase_of c.args.task.now c.args.setting.now c.args.shape in
+    let phase = phase_of c.args.phase.now.task.now c.args.phase.now.setting.now c.args.phase.now.shape in
     let K = g.G.Guide.keeps c.turn.new.guide in
-    let F = g.G.Guide.fits c.turn.new.guide c.args.task.now in
+    let F = g.G.Guide.fits c.turn.new.guide c.args.phase.now.task.now in
     let i = c.loop-turn.invariant in
     let old = c.loop-turn.machine.log.pops in
     let new = c.turn.new.self.log.pops in
@@ -60,9 +59,9 @@ returns-in-Empty g c =
 
 pub returns-in-AtGoal : goal.returns-in-AtGoal
 returns-in-AtGoal g c =
-    let phase = phase_of c.args.task.now c.args.setting.now c.args.shape in
+    let phase = phase_of c.args.phase.now.task.now c.args.phase.now.setting.now c.args.phase.now.shape in
     let K = g.G.Guide.keeps c.turn.new.guide in
-    let F = g.G.Guide.fits c.turn.new.guide c.args.task.now in
+    let F = g.G.Guide.fits c.turn.new.guide c.args.phase.now.task.now in
     let i = c.loop-turn.invariant in
     let old = c.loop-turn.machine.log.pops in
     let new = c.turn.new.self.log.pops in
@@ -79,9 +78,9 @@ returns-in-AtGoal g c =
 
 pub returns-in-AtFull : goal.returns-in-AtFull
 returns-in-AtFull g c =
-    let phase = phase_of c.args.task.now c.args.setting.now c.args.shape in
+    let phase = phase_of c.args.phase.now.task.now c.args.phase.now.setting.now c.args.phase.now.shape in
     let K = g.G.Guide.keeps c.turn.new.guide in
-    let F = g.G.Guide.fits c.turn.new.guide c.args.task.now in
+    let F = g.G.Guide.fits c.turn.new.guide c.args.phase.now.task.now in
     let i = c.loop-turn.invariant in
     let old = c.loop-turn.machine.log.pops in
     let new = c.turn.new.self.log.pops in
@@ -98,9 +97,9 @@ returns-in-AtFull g c =
 
 pub returns-in-Some : goal.returns-in-Some
 returns-in-Some g c =
-    let phase = phase_of c.args.task.now c.args.setting.now c.args.shape in
+    let phase = phase_of c.args.phase.now.task.now c.args.phase.now.setting.now c.args.phase.now.shape in
     let K = g.G.Guide.keeps c.turn.new.guide in
-    let F = g.G.Guide.fits c.turn.new.guide c.args.task.now in
+    let F = g.G.Guide.fits c.turn.new.guide c.args.phase.now.task.now in
     let i = c.loop-turn.invariant in
     let e = c.in-Some.ensures in
     let old = c.loop-turn.machine.log.pops in
@@ -123,9 +122,9 @@ returns-in-Some g c =
 
 pub loop-turn-preserved : goal.loop-turn-preserved
 loop-turn-preserved g c =
-    let phase = phase_of c.args.task.now c.args.setting.now c.args.shape in
+    let phase = phase_of c.args.phase.now.task.now c.args.phase.now.setting.now c.args.phase.now.shape in
     let K = g.G.Guide.keeps c.turn.new.guide in
-    let F = g.G.Guide.fits c.turn.new.guide c.args.task.now in
+    let F = g.G.Guide.fits c.turn.new.guide c.args.phase.now.task.now in
     let i = c.loop-turn.invariant in
     let e = c.ask_after.ensures in
     let d = c.in_default.ensures in
@@ -149,14 +148,14 @@ loop-turn-preserved g c =
 
 pub returns-then-is_empty : goal.returns-then-is_empty
 returns-then-is_empty g c =
-    let phase = phase_of c.args.task.now c.args.setting.now c.args.shape in
+    let phase = phase_of c.args.phase.now.task.now c.args.phase.now.setting.now c.args.phase.now.shape in
     let m = c.loop-turn.machine in
     let i = c.loop-turn.invariant in
     let s = i.stands in
     record {
       same_task = i.same_task;
       meaning = i.meaning;
-      halts = halts_done phase (g.G.Guide.keeps c.loop-turn.guide) (g.G.Guide.fits c.loop-turn.guide c.args.task.now) m s (exhausted_now phase m s.past c.requires.phase s.rests s.ends (lists_empty phase m s.past s.rests (c.is_empty.ensures.0 c.if-is_empty.true)));
+      halts = halts_done phase (g.G.Guide.keeps c.loop-turn.guide) (g.G.Guide.fits c.loop-turn.guide c.args.phase.now.task.now) m s (exhausted_now phase m s.past c.args.phase.now.is_phase s.rests s.ends (lists_empty phase m s.past s.rests (c.is_empty.ensures.0 c.if-is_empty.true)));
       answers = i.answers;
       moment = tt;
       later = i.later;
@@ -165,14 +164,14 @@ returns-then-is_empty g c =
 
 pub returns : goal.returns
 returns g c =
-    let phase = phase_of c.args.task.now c.args.setting.now c.args.shape in
+    let phase = phase_of c.args.phase.now.task.now c.args.phase.now.setting.now c.args.phase.now.shape in
     let m = c.loop-turn.machine in
     let i = c.loop-turn.invariant in
     let s = i.stands in
     record {
       same_task = i.same_task;
       meaning = i.meaning;
-      halts = halts_pops phase (g.G.Guide.keeps c.loop-turn.guide) (g.G.Guide.fits c.loop-turn.guide c.args.task.now) m s (ends_at_pops phase m s.past s.rests s.ends (λ none. both_ways c.is_empty.result c.if-is_empty.false (c.is_empty.ensures.1 none)) (omega (arith, i.count, c.loop-turn-test.false, c.loop-turn.auto.turn-end)));
+      halts = halts_pops phase (g.G.Guide.keeps c.loop-turn.guide) (g.G.Guide.fits c.loop-turn.guide c.args.phase.now.task.now) m s (ends_at_pops phase m s.past s.rests s.ends (λ none. both_ways c.is_empty.result c.if-is_empty.false (c.is_empty.ensures.1 none)) (omega (arith, i.count, c.loop-turn-test.false, c.loop-turn.auto.turn-end)));
       answers = i.answers;
       moment = tt;
       later = i.later;

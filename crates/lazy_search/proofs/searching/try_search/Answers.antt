@@ -4,12 +4,12 @@ use Rattle.search_log.specs.Phases.{Phase}
 use Rattle.search_log.specs.Clocks.{moment_of}
 use Rattle.lazy_search.specs.declared.end.SearchEnd.{SearchEnd}
 use Rattle.lazy_search.specs.declared.end.SearchEnd.TheVariants.{Limit}
-use Rattle.lazy_search.specs.Machines.{phase_of}
+use Rattle.lazy_search.specs.Phases.{phase_of}
 use Rattle.lazy_search.specs.Ends.{EndHolds, ClockHolds, IsAnswered, IsBetween, moment_by}
 use Rattle.lazy_search.proofs.Clocking.{tells_then, asks_first, between_from}
 use Rattle.lazy_search.proofs.Halting.{asks_over, if_both}
 use Rattle.lazy_search.proofs.Answering.{first_limit, phase_same, is_phase}
-use Rattle.lazy_search.proofs.phase.try_search.Goals as goal
+use Rattle.lazy_search.proofs.searching.try_search.Goals as goal
 
 pub returns-in-Some : goal.returns-in-Some
 returns-in-Some g c =
@@ -38,13 +38,7 @@ pub returns-in_err-machine-clause-tells : goal.returns-in_err-machine-clause-tel
 returns-in_err-machine-clause-tells g c = c.ask.ensures.tells
 
 pub search_with-end-requires : goal.search_with-end-requires
-search_with-end-requires g c =
-    let e = c.shape_of-shape.ensures in
-    record {
-      phase = is_phase c.args.task.now c.args.setting.now c.shape_of-shape.result e.well_formed e.some e.few c.requires.setting;
-      blank = c.in_ok-machine.ensures;
-      same_task = c.requires.same_task;
-    }
+search_with-end-requires g c = record { blank = c.in_ok-machine.ensures; same_task = c.requires.same_task }
 
 pub returns : goal.returns
 returns g c =

@@ -1,7 +1,7 @@
 use Rattle.std.proofs.Common.{◌<◌, ◌+◌, refl, arith}
 use Rattle.lazy_search.proofs.Clocking.{tells_same, tells_one, asks_none, asks_early, asks_late}
-use Rattle.lazy_search.proofs.phase.ask.Goals.{then-moment-stop-via-then-moment-stop, then-moment-stop-via-else-moment-stop+then-moment-stop-2}
-use Rattle.lazy_search.proofs.phase.ask.Goals as goal
+use Rattle.lazy_search.proofs.searching.ask.Goals.{then-moment-stop-via-then-moment-stop, then-moment-stop-via-else-moment-stop+then-moment-stop-2}
+use Rattle.lazy_search.proofs.searching.ask.Goals as goal
 
 pub returns-in_err-stop-clause-asks : goal.returns-in_err-stop-clause-asks
 returns-in_err-stop-clause-asks g c = asks_none c.args.setting.now.stop (g.C.Clock.answers c.args.clock.now) c.from_residual.result c.in_err-stop.was c.from_residual.ensures
