@@ -1,6 +1,6 @@
-pub mod Hearing
-pub mod Making
-pub mod Resetting
+pub mod TriedRules
+pub mod RuleTables
+pub mod DefaultValues
 pub mod Rounds
 pub mod Sound
 pub mod Upwards

@@ -13,7 +13,7 @@ use Rattle.axiom_eval.specs.Rules.{layer_at, AreRules}
 use Rattle.axiom_eval.proofs.Written.{written_none}
 use Rattle.axiom_eval.specs.declared.tables.Rules.{Rules}
 use Rattle.axiom_eval.proofs.Sound.{same_layer}
-use Rattle.axiom_eval.proofs.Hearing.{any_found, IsFound}
+use Rattle.axiom_eval.proofs.TriedRules.{any_found, IsFound}
 
 -- a layer without rules
 no_rules : (parts : Parts) (layer : ℕ) (rules : List Rule) → list_any (λ r. is_of parts layer r.head.var) rules ≡ false → rules_of parts.variables layer rules ≡ []

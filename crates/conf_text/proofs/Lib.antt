@@ -1,7 +1,7 @@
-pub mod Accepting
+pub mod WithinLimits
 pub mod BuiltIn
 pub mod Commas
-pub mod Cutting
+pub mod WordLengths
 pub mod ReadingBack
 pub mod Readings
 pub mod Turns

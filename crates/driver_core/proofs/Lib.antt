@@ -3,6 +3,6 @@ pub mod Tests
 pub mod Present
 pub mod Steps
 pub mod Times
-pub mod Stopping
+pub mod OverLaws
 pub mod OneMoreEvent
 pub mod PastLaws

@@ -27,7 +27,7 @@ use Rattle.run_report.specs.Runs.{IsUnderWay}
 use Rattle.run_report.specs.Searches.{Run}
 use Rattle.driver_run.specs.Searching.{turns_on, begun_with}
 use Rattle.driver_run.proofs.Turning.{own_offer, the_turn, none_offered, offered_more, events_more}
-use Rattle.run_report.proofs.Planning.{cheaper-push as cheaper_more}
+use Rattle.run_report.proofs.OneMorePlan.{cheaper-push as cheaper_more}
 
 pub take_none : (single : Bool) → ◌≡◌ {A = List ℕ} (take (most_plans single) []) []
 take_none true = refl

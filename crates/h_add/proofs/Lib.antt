@@ -1,5 +1,5 @@
-pub mod Counting
-pub mod Growing
+pub mod ReachedSums
+pub mod ListGrowth
 pub mod Steps
 pub mod NumberedRounds
 pub mod EvaluatedLaws

@@ -17,7 +17,7 @@ use Rattle.relaxed_task.specs.Numbers.{is_among, is_below, over_numbers}
 use Rattle.relaxed_task.specs.declared.unary.Unary.{Unary}
 use Rattle.h_add.specs.declared.network.Open.{Open}
 use Rattle.h_add.specs.UnderWay.{Settlement, cost_at, is_settled, is_reached, is_left_out, open_at, unsettled, given_at, there_at, one_open, share, summed, IsCounted, IsUnderWay, left_to_do, IsFrom, HasCounted, IsSettling, IsLater, IsFresh, HasMarked, IsWanted, HasSettled, AreSettled}
-use Rattle.h_add.proofs.Counting.{none_counted, reached_if, unsettled_not, sum_changed, reached_same, all_reached, There, unary_there, finite_is, infinite_is, reached_small, price_sum}
+use Rattle.h_add.proofs.ReachedSums.{none_counted, reached_if, unsettled_not, sum_changed, reached_same, all_reached, There, unary_there, finite_is, infinite_is, reached_small, price_sum}
 use Rattle.std.specs.List.{list_all}
 use Rattle.std.proofs.Math.Path.{fun_ext}
 use Rattle.std.proofs.lemmas.Option.{slice_get_within, get_or_from_slice_get}
@@ -27,7 +27,7 @@ use Rattle.h_add.specs.ByNumber.{start_facts, IsAdd}
 use Rattle.h_add.specs.Orders.{chosen, given_by, are_places, IsOrder}
 use Rattle.h_add.proofs.EvaluatedLaws.{chosen_grows}
 use Rattle.h_add.specs.Networks.{needed, IsNeededBy, AreFree, open_at_start}
-use Rattle.h_add.proofs.Growing.{needed_at, written_back}
+use Rattle.h_add.proofs.ListGrowth.{needed_at, written_back}
 use Rattle.lama_num.specs.declared.estimates.Estimate.{Estimate}
 use Rattle.lama_num.specs.declared.estimates.Estimate.TheVariants.{Finite, Infinite}
 use Rattle.relaxed_task.proofs.CostLaws.{IsClosed, price_at_most, sum_capped}

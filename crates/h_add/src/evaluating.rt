@@ -121,7 +121,7 @@ impl Settling {
     }
 
     /// Settles facts until all goal facts are settled or none waits.
-    #[tactic(auto, using(crate::proofs::Steps::now_later, crate::proofs::Growing::below_at))]
+    #[tactic(auto, using(crate::proofs::Steps::now_later, crate::proofs::ListGrowth::below_at))]
     fn settle_goals(&mut self, network: &Network)
         requires facts { network.now.facts ≡ length self.old.costs }
         requires way { IsSettling network.now.unaries self.old }

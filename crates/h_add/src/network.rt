@@ -80,7 +80,7 @@ fn opens_of(alloc: Global, unaries: &[Unary]) -> Result<Vec<Open>, NoMemory>
 
 impl Network {
     /// The tables of a relaxation.
-    #[tactic(auto, using(crate::proofs::Growing::gives_below))]
+    #[tactic(auto, using(crate::proofs::ListGrowth::gives_below))]
     pub fn new(alloc: Global, relaxed: Relaxed) -> Result<Network, NoMemory>
         ensures { IfOk result (λ network. network ≡ relaxed) }
     {
@@ -125,7 +125,7 @@ impl Network {
     }
 
     /// The unary operators without conditions.
-    #[tactic(auto, using(crate::proofs::Growing::free_of_needs))]
+    #[tactic(auto, using(crate::proofs::ListGrowth::free_of_needs))]
     pub fn free(&self) -> &[u32]
         ensures free { AreFree self.now.unaries result.now }
         ensures within { IsTrue (are_places (length self.now.unaries) result.now) }
@@ -183,7 +183,7 @@ fn add_needs(
 }
 
 /// Adds each unary operator to the lists of what it needs.
-#[tactic(auto, using(crate::proofs::Growing::needed_more))]
+#[tactic(auto, using(crate::proofs::ListGrowth::needed_more))]
 fn add_each(lists: &mut [Seq<u32>], unaries: &[Unary], always: u32) -> Result<(), AllocError>
     requires few { length unaries.now < 2 ^ 32 }
     requires always { always < length lists.old }

@@ -178,7 +178,7 @@ impl Settling {
 
     /// Counts a fact of this cost among the conditions of a unary operator, which offers what it
     /// gives if it has no other open.
-    #[tactic(auto, using(crate::proofs::Counting::met_some, crate::proofs::Counting::met_all))]
+    #[tactic(auto, using(crate::proofs::ReachedSums::met_some, crate::proofs::ReachedSums::met_all))]
     fn meet(&mut self, network: &Network, place: u32, value: u32)
         requires facts { network.now.facts ≡ length self.old.costs }
         requires place { place < length network.now.unaries }
@@ -195,7 +195,7 @@ impl Settling {
 
     /// Counts a fact of this cost among the conditions of several unary operators.
     #[inline(always)]
-    #[tactic(auto, using(crate::proofs::Counting::walks))]
+    #[tactic(auto, using(crate::proofs::ReachedSums::walks))]
     pub fn walk(&mut self, network: &Network, places: &[u32], value: u32)
         requires facts { network.now.facts ≡ length self.old.costs }
         requires places { IsTrue (are_places (length network.now.unaries) places.now) }

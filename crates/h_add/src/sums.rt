@@ -21,7 +21,7 @@ pub fn estimate(cost: u32) -> Estimate
 }
 
 /// The sum of what facts cost.
-#[tactic(auto, using(crate::proofs::Counting::sums))]
+#[tactic(auto, using(crate::proofs::ReachedSums::sums))]
 pub fn total(costs: &[u32], facts: &[u32]) -> u32
     requires { IsTrue (are_below (length costs.now) facts.now) }
     ensures { estimate_of result ≡ total_of (value_at costs.now) facts.now }

@@ -1,6 +1,6 @@
 pub mod Lookups
 pub mod Places
 pub mod Slots
-pub mod Telling
+pub mod JournalSteps
 pub mod Ticks
 pub mod FirstContent

@@ -14,7 +14,7 @@ use Rattle.host_mem.specs.declared.children.Start.{Start}
 use Rattle.host_mem.specs.declared.children.Running.{Running}
 use Rattle.host_mem.specs.declared.journal.Change.{Change}
 use Rattle.host_mem.specs.declared.journal.Change.TheVariants.{Began, Ended}
-use Rattle.host_mem.proofs.Telling.{newest, lengthens, made_or_not}
+use Rattle.host_mem.proofs.JournalSteps.{newest, lengthens, made_or_not}
 
 started_next : (n : ℕ) (seen seen' : ℕ → Option Files) (starts : List Start) (start : Start) →
     ((k : ℕ) → k < n + length starts → seen' k ≡ seen k) →

@@ -1,2 +1,2 @@
-pub mod Searching
-pub mod Showing
+pub mod PhaseSearches
+pub mod PhaseEndLaws

@@ -1,5 +1,5 @@
 pub mod NameLength
-pub mod Reading
+pub mod DecimalDigits
 pub mod RowLaws
 pub mod DecimalLaws
 pub mod ListLaws

@@ -10,8 +10,8 @@ use Rattle.sas_task.specs.declared.contents.Parts.{Parts}
 use Rattle.relaxed_task.specs.Numbers.{is_among}
 use Rattle.lm_backchain.specs.Backchain.{least, least_cost, or_less, gives_one, is_goal_fact, node_of}
 use Rattle.lm_backchain.specs.Givers.{AreGivers, cost_at}
-use Rattle.lm_backchain.proofs.Giving.{gives_at_of, gives_from}
-use Rattle.lm_backchain.proofs.Listing.{take_more_at}
+use Rattle.lm_backchain.proofs.GivingOperators.{gives_at_of, gives_from}
+use Rattle.lm_backchain.proofs.ListLaws.{take_more_at}
 
 -- one number more
 pub least_more : (numbers : List ℕ) (n : ℕ) → least (numbers ++ n ∷ []) ≡ Some (or_less n (least numbers))

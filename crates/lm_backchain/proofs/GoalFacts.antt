@@ -18,8 +18,8 @@ use Rattle.lm_graph.specs.Nodes.{sets_of}
 use Rattle.lm_backchain.specs.Backchain.{has, Among, IsNode, goal, node_of, singles}
 use Rattle.lm_backchain.specs.Growth.{HasGoals, Works}
 use Rattle.lm_backchain.proofs.FactLists.{at_has, has_at, has_self, has_one}
-use Rattle.lm_backchain.proofs.Coming.{Extends, extends, known_same}
-use Rattle.lm_backchain.proofs.Listing.{single_at, at_single, among_none}
+use Rattle.lm_backchain.proofs.NewNodes.{Extends, extends, known_same}
+use Rattle.lm_backchain.proofs.ListLaws.{single_at, at_single, among_none}
 use Rattle.lm_graph.proofs.Lists.{get_front as front_get}
 
 -- which facts are kept of some

@@ -17,7 +17,7 @@ use Rattle.lm_backchain.specs.Backchain.{has, is_open, conditions_of, IsPossible
 use Rattle.lm_backchain.specs.Landmarks.{node_holds, HoldsAt, HoldsFirstAt, Landmark, GreedyNecessary, Natural}
 use Rattle.lm_backchain.proofs.FactLists.{any_has, has_one, has_self}
 use Rattle.lm_backchain.proofs.Runs.{run_first}
-use Rattle.lm_backchain.proofs.Achieving.{first, possible, reached_next, first_or_none, open_plain, open_start, open_fact}
+use Rattle.lm_backchain.proofs.FirstHolding.{first, possible, reached_next, first_or_none, open_plain, open_start, open_fact}
 
 -- conditions of a possible first achiever are facts of the task
 pub first_facts : (parts : Parts) (node conds : List Fact) → IsWellFormed parts → IsPossibleFirst parts node conds → list_all (is_fact parts.variables) conds ≡ true

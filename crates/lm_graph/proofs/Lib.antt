@@ -1,10 +1,10 @@
 pub mod Contents
 pub mod Edges
 pub mod Lists
-pub mod Looking
-pub mod Marking
-pub mod Numbering
+pub mod FactLookUps
+pub mod MarkLaws
+pub mod NumbersOfFacts
 pub mod Places
 pub mod Strengths
-pub mod Turning
+pub mod TurnedRows
 pub mod FloodLaws

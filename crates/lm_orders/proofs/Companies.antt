@@ -20,7 +20,7 @@ use Rattle.lm_graph.specs.Rows.{kind_in}
 use Rattle.lm_orders.specs.declared.givers.Givers.{Givers}
 use Rattle.lm_orders.specs.Interference.{fact_of, given_facts, always_given, IsGiver, ComesWith, IsDirectlyBefore, GoesWith}
 use Rattle.lm_orders.specs.Givers.{AreGivers, is_common, fact_before, IsCompany, HasCompanies}
-use Rattle.lm_orders.proofs.Listing.{from_given, to_given, all_from, all_gives, row_last, row_other, row_of_map, has_row}
+use Rattle.lm_orders.proofs.ListLaws.{from_given, to_given, all_from, all_gives, row_last, row_other, row_of_map, has_row}
 use Rattle.sas_task.proofs.FactLists.{same-true as facts_equal}
 use Rattle.sas_task.proofs.FactLists.{same-refl as same_self}
 

@@ -1,6 +1,6 @@
 pub mod Companies
-pub mod Indexing
-pub mod Judging
-pub mod Listing
-pub mod Passing
-pub mod Turning
+pub mod RowsByFact
+pub mod OrderTests
+pub mod ListLaws
+pub mod OrderPaths
+pub mod PairOrder

@@ -1,3 +1,3 @@
 pub mod Bits
-pub mod Laying
-pub mod Reading
+pub mod FieldLayout
+pub mod FieldReads

@@ -1,8 +1,8 @@
-pub mod Answering
+pub mod PathAnswers
 pub mod Few
 pub mod Sides
 pub mod Sublists
-pub mod Taking
-pub mod Telling
+pub mod CarriedOver
+pub mod EvaluatorAnswers
 pub mod Unions
 pub mod LastStates

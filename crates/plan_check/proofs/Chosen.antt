@@ -13,7 +13,7 @@ use Rattle.state_step.specs.Steps.{is_applicable}
 use Rattle.sas_task.proofs.RunLaws.{step-applicable}
 use Rattle.plan_check.specs.Choices.{has_name, is_candidate, candidates, state_after, choices_from, choices, IsChoice}
 use Rattle.plan_check.specs.Verdicts.{state_by, last_state}
-use Rattle.plan_check.proofs.Naming.{candidates_in, drop_at}
+use Rattle.plan_check.proofs.NamedOperators.{candidates_in, drop_at}
 
 abbrev pub Each : {A : Type 0} → (A → Type 0) → List A → Type 0
 Each P [] = Unit {0}

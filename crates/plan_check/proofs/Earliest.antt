@@ -18,8 +18,8 @@ use Rattle.sas_task.proofs.RunLaws.{is_some-step}
 use Rattle.plan_check.specs.Choices.{has_name, is_candidate, state_after, choices_from, IsChoice, IsBefore}
 use Rattle.plan_check.proofs.Chosen.{CanBeTaken, AreTaken}
 use Rattle.plan_check.proofs.Ends.{state_after-is}
-use Rattle.plan_check.proofs.Naming.{candidates_in, drop_at}
-use Rattle.plan_check.proofs.Reaching.{item_at}
+use Rattle.plan_check.proofs.NamedOperators.{candidates_in, drop_at}
+use Rattle.plan_check.proofs.GoalChoices.{item_at}
 
 -- a choice is of operators that can be taken
 

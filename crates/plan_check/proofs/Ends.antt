@@ -20,7 +20,7 @@ use Rattle.packed_state.specs.Packing.{Places}
 use Rattle.plan_check.specs.Layers.{IsEnd, pair_words, end_words, longer, one_each}
 use Rattle.plan_check.proofs.LayerLaws.{one_more}
 use Rattle.plan_check.proofs.Firsts.{IsByKind, firsts-flat_map}
-use Rattle.plan_check.proofs.Naming.{candidates_in, drop_at}
+use Rattle.plan_check.proofs.NamedOperators.{candidates_in, drop_at}
 
 -- states by operators
 

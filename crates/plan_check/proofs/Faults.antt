@@ -22,7 +22,7 @@ use Rattle.plan_check.specs.Layers.{pair_words, end_words, Leads, IsLayer, IsGro
 use Rattle.plan_check.proofs.LayerLaws.{one_more}
 use Rattle.state_step.specs.Steps.{is_applicable}
 use Rattle.plan_check.proofs.Ends.{choices-step, ends-step, candidates-applicable, more-none, last_state-state, end_more, words_at_end}
-use Rattle.plan_check.proofs.Leading.{leads_more}
+use Rattle.plan_check.proofs.LinkPaths.{leads_more}
 use Rattle.plan_check.proofs.Vectors.{added_first}
 
 -- the first of several

@@ -1,8 +1,8 @@
-pub mod Removing
+pub mod RemovedNames
 pub mod Pieces
 pub mod Lines
-pub mod Drafting
-pub mod Placing
+pub mod Drafts
+pub mod Renames
 pub mod Fronts
 pub mod Lengths
 pub mod Stages

@@ -16,7 +16,7 @@ use Rattle.plan_manager.proofs.FamilyLaws.{family≢part}
 use Rattle.plan_manager.specs.Sealing.{plan_at, text_at, SealStep, Draft, Place, Take, TakePart, Seals, SealsBetween, Rewrites}
 use Rattle.lama_host.proofs.StepLaws.{each-append, each-weaker, each_once, last_of-append, changes_none, changes_then, changes_weaker}
 use Rattle.lama_host.specs.Steps.{Each}
-use Rattle.plan_manager.proofs.Removing.{nothing_ok}
+use Rattle.plan_manager.proofs.RemovedNames.{nothing_ok}
 
 -- a target that holds its text already
 pub already : (E : Type 0) (a b : Told) (draft target text : List ℕ) → IsUntouched a b → WhereTold a (λ files. get files target ≡ Some text) → Changes a b (Rewrites {T = Unit {0}} {E = E} (Ok tt) draft target text)

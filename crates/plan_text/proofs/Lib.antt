@@ -2,4 +2,4 @@ pub mod Few
 pub mod Fronts
 pub mod Growth
 pub mod ReadingBack
-pub mod Stripping
+pub mod TextEnds

@@ -24,7 +24,7 @@ use Rattle.plan_text.specs.declared.reading.PlanLines.{PlanLines}
 use Rattle.plan_text.specs.declared.faults.PlanTextFault.{PlanTextFault}
 use Rattle.plan_text.specs.declared.faults.PlanTextFault.TheVariants.{BadCost, TooLong}
 use Rattle.lama_num.specs.Gives.{◌>>=◌}
-use Rattle.plan_text.proofs.Stripping.{before-append}
+use Rattle.plan_text.proofs.TextEnds.{before-append}
 use Rattle.plan_text.proofs.Fronts.{passes_rest, passes_front, fails_rest, fails_front}
 
 -- the line of a step, without its line feed

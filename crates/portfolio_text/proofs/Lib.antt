@@ -1,4 +1,4 @@
 pub mod Blanks
 pub mod EntryTurns
 pub mod Utf8Lines
-pub mod Wording
+pub mod LineWords

@@ -61,7 +61,7 @@ fn alias(line: u64, name: &str) -> Result<Work, PortBad>
 }
 
 /// The words of a text.
-#[tactic(auto, using(crate::proofs::Wording::word_by_word))]
+#[tactic(auto, using(crate::proofs::LineWords::word_by_word))]
 fn words(alloc: Global, text: &str) -> Result<Seq<Text>, AllocError>
     ensures { IfOk result (λ words. words ≡ words_of text.now) }
 {

@@ -1,6 +1,6 @@
 pub mod Marks
 pub mod More
-pub mod Numbering
+pub mod TaskNumbers
 pub mod CostLaws
 pub mod Elements
 pub mod EstimateLaws

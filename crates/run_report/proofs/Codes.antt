@@ -25,7 +25,7 @@ use Rattle.run_report.specs.Tells.{Turns, between, events_of}
 use Rattle.run_report.specs.Events.{code_of, ended_code}
 use Rattle.run_report.specs.Searches.{Run}
 use Rattle.run_report.specs.Runs.{TellsRun, IsUnderWay}
-use Rattle.run_report.proofs.Going.{events_between}
+use Rattle.run_report.proofs.TurnEvents.{events_between}
 
 parts-append : (events more : List Event) → parts_in (events ++ more) ≡ parts_in events ++ parts_in more
 parts-append events more = filter_map-append part_in events more

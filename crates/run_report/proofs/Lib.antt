@@ -1,7 +1,7 @@
 mod Codes
-mod Completing
-mod Finishing
-mod Going
+mod CompleteRuns
+mod EndedTurn
+mod TurnEvents
 mod Lists
-mod Phasing
-pub mod Planning
+mod PhaseSteps
+pub mod OneMorePlan

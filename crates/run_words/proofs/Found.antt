@@ -26,7 +26,7 @@ use Rattle.run_words.specs.declared.faults.WordsError.TheVariants.{Asked, Bad, N
 use Rattle.run_words.specs.declared.faults.WordsFault.TheVariants.{Refused}
 use Rattle.run_words.proofs.Rules.{fault_is, flag_arg, found_is, option_arg, rows_from, rules, task_arg, if_same}
 use Rattle.run_words.proofs.Steps.{Nothing, at_no_row, row_by, rows_by}
-use Rattle.run_words.proofs.Walking.{Agrees, agreement, line_with}
+use Rattle.run_words.proofs.ClapWalk.{Agrees, agreement, line_with}
 
 -- the defaults of flags
 

@@ -1,7 +1,7 @@
 pub mod Found
 pub mod OnCommand
-pub mod Requesting
+pub mod RequestLaws
 pub mod Rules
 pub mod Steps
-pub mod Walking
+pub mod ClapWalk
 pub mod WordForms

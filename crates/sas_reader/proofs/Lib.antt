@@ -3,7 +3,7 @@ pub mod Known
 pub mod Only
 pub mod Pairs
 pub mod Parts
-pub mod Prevailing
+pub mod PrevailLimits
 pub mod Readings
 pub mod Sound
-pub mod Walking
+pub mod FormatWalks

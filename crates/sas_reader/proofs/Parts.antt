@@ -7,7 +7,7 @@ use Rattle.text_lines.specs.Lines.{Place}
 use Rattle.sas_reader.specs.Formats.{Below, EffectIn, line, times, each}
 use Rattle.sas_reader.specs.TaskText.{variable, variables_from, initial}
 use Rattle.sas_reader.specs.Walks.{walk, next, fault_of, changed}
-use Rattle.sas_reader.proofs.Walking.{Walked, bind_same, walk_on, behind, behind_cons, times_suc, row_more, row_fail}
+use Rattle.sas_reader.proofs.FormatWalks.{Walked, bind_same, walk_on, behind, behind_cons, times_suc, row_more, row_fail}
 use Rattle.sas_task.specs.declared.contents.Fact.{Fact}
 use Rattle.sas_task.specs.declared.contents.Effect.{Effect}
 use Rattle.sas_task.specs.declared.contents.Variable.{Variable}

@@ -30,7 +30,7 @@ use Rattle.sas_reader.specs.declared.faults.SasFault.{SasFault}
 use Rattle.sas_reader.specs.declared.faults.SasFault.TheVariants.{TooLarge}
 use Rattle.sas_reader.proofs.Only.{bind_ok, ok_same, Only, only_bind, only_also, SoMany, only_times, only_walk}
 use Rattle.sas_reader.proofs.GivenLines.{name_ok, count_ok, layer_ok, IsRange, range_ok, value_ok, fact_ok, is_own, is_good_change, effect_ok, head_ok}
-use Rattle.sas_reader.proofs.Prevailing.{is_own_change, prevail_few}
+use Rattle.sas_reader.proofs.PrevailLimits.{is_own_change, prevail_few}
 
 -- variables
 

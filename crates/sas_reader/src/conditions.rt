@@ -16,7 +16,7 @@ use sas_task::{Fact, MOST_LISTED, Variable, What};
 use std::alloc::Global;
 use text_lines::Cursor;
 
-#[tactic(auto, using(crate::proofs::Walking::loop_more, crate::proofs::Walking::loop_none))]
+#[tactic(auto, using(crate::proofs::FormatWalks::loop_more, crate::proofs::FormatWalks::loop_none))]
 fn read_so_many_facts(
     alloc: Global,
     cursor: &mut Cursor,
@@ -53,7 +53,7 @@ pub fn read_facts(
     read_so_many_facts(alloc, cursor, variables, count)
 }
 
-#[tactic(auto, using(crate::proofs::Walking::walk_on), unfolding(crate::specs::TaskText::group))]
+#[tactic(auto, using(crate::proofs::FormatWalks::walk_on), unfolding(crate::specs::TaskText::group))]
 fn read_group(
     alloc: Global,
     cursor: &mut Cursor,
@@ -69,7 +69,7 @@ fn read_group(
     Ok(Seq::from(facts))
 }
 
-#[tactic(auto, using(crate::proofs::Walking::loops))]
+#[tactic(auto, using(crate::proofs::FormatWalks::loops))]
 fn read_so_many_groups(
     alloc: Global,
     cursor: &mut Cursor,
@@ -107,7 +107,7 @@ pub fn read_groups(
 }
 
 /// The goal.
-#[tactic(auto, using(crate::proofs::Walking::walk_on), unfolding(crate::specs::TaskText::goal))]
+#[tactic(auto, using(crate::proofs::FormatWalks::walk_on), unfolding(crate::specs::TaskText::goal))]
 pub fn read_goal(
     alloc: Global,
     cursor: &mut Cursor,

@@ -62,7 +62,7 @@ fn read_effects(
     Ok(Changes { pre, effects })
 }
 
-#[tactic(auto, using(crate::proofs::Walking::walk_on), unfolding(crate::specs::TaskText::changes))]
+#[tactic(auto, using(crate::proofs::FormatWalks::walk_on), unfolding(crate::specs::TaskText::changes))]
 fn read_changes(
     alloc: Global,
     cursor: &mut Cursor,
@@ -84,7 +84,7 @@ fn charged(metric: bool, cost: u32) -> u32
     if metric { cost } else { 1 }
 }
 
-#[tactic(auto, using(crate::proofs::Walking::walk_on), unfolding(crate::specs::TaskText::operator))]
+#[tactic(auto, using(crate::proofs::FormatWalks::walk_on), unfolding(crate::specs::TaskText::operator))]
 fn read_operator(
     alloc: Global,
     cursor: &mut Cursor,
@@ -108,7 +108,7 @@ fn read_operator(
     })
 }
 
-#[tactic(auto, using(crate::proofs::Walking::loops))]
+#[tactic(auto, using(crate::proofs::FormatWalks::loops))]
 fn read_so_many_operators(
     alloc: Global,
     cursor: &mut Cursor,
@@ -147,7 +147,7 @@ pub fn read_operators(
     Ok(Seq::from(operators))
 }
 
-#[tactic(auto, using(crate::proofs::Walking::walk_on), unfolding(crate::specs::TaskText::rule))]
+#[tactic(auto, using(crate::proofs::FormatWalks::walk_on), unfolding(crate::specs::TaskText::rule))]
 fn read_rule(
     alloc: Global,
     cursor: &mut Cursor,
@@ -165,7 +165,7 @@ fn read_rule(
     Ok(rule)
 }
 
-#[tactic(auto, using(crate::proofs::Walking::loops))]
+#[tactic(auto, using(crate::proofs::FormatWalks::loops))]
 fn read_so_many_rules(
     alloc: Global,
     cursor: &mut Cursor,

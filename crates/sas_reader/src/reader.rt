@@ -29,7 +29,7 @@ struct Opening {
     variables: Vec<Variable>,
 }
 
-#[tactic(auto, using(crate::proofs::Walking::walk_on), unfolding(crate::specs::TaskText::opening))]
+#[tactic(auto, using(crate::proofs::FormatWalks::walk_on), unfolding(crate::specs::TaskText::opening))]
 fn read_opening(alloc: Global, cursor: &mut Cursor) -> Result<Opening, SasError>
     ensures opening { Gives fault_of (λ o. ((o.metric, o.variables.items), cursor.new)) result
         (walk the_opening cursor.old) }
@@ -48,7 +48,7 @@ struct Ends {
     goal: Seq<Fact>,
 }
 
-#[tactic(auto, using(crate::proofs::Walking::walk_on), unfolding(crate::specs::TaskText::ends))]
+#[tactic(auto, using(crate::proofs::FormatWalks::walk_on), unfolding(crate::specs::TaskText::ends))]
 fn read_ends(alloc: Global, cursor: &mut Cursor, variables: &[Variable]) -> Result<Ends, SasError>
     requires { AreVariables variables.now }
     ensures { Gives fault_of (λ e. ((e.init, e.goal), cursor.new)) result
@@ -59,7 +59,7 @@ fn read_ends(alloc: Global, cursor: &mut Cursor, variables: &[Variable]) -> Resu
     Ok(Ends { init, goal })
 }
 
-#[tactic(auto, using(crate::proofs::Walking::walk_on), unfolding(crate::specs::TaskText::rest))]
+#[tactic(auto, using(crate::proofs::FormatWalks::walk_on), unfolding(crate::specs::TaskText::rest))]
 fn read_rest(alloc: Global, cursor: &mut Cursor, opening: Opening) -> Result<Parts, SasError>
     requires { AreVariables opening.variables.items }
     ensures { Gives fault_of (λ parts. (parts, cursor.new)) result
@@ -81,7 +81,7 @@ fn read_rest(alloc: Global, cursor: &mut Cursor, opening: Opening) -> Result<Par
     })
 }
 
-#[tactic(auto, using(crate::proofs::Walking::walk_on), unfolding(crate::specs::TaskText::task))]
+#[tactic(auto, using(crate::proofs::FormatWalks::walk_on), unfolding(crate::specs::TaskText::task))]
 fn read_task(alloc: Global, cursor: &mut Cursor) -> Result<Parts, SasError>
     ensures { Gives fault_of (λ parts. (parts, cursor.new)) result (walk the_task cursor.old) }
 {

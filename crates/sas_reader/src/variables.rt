@@ -42,7 +42,7 @@ pub fn read_metric(cursor: &mut Cursor) -> Result<bool, SasError>
     Ok(metric)
 }
 
-#[tactic(auto, using(crate::proofs::Walking::loop_more, crate::proofs::Walking::loop_none))]
+#[tactic(auto, using(crate::proofs::FormatWalks::loop_more, crate::proofs::FormatWalks::loop_none))]
 fn read_names(alloc: Global, cursor: &mut Cursor, count: u64) -> Result<Vec<Seq<u8>>, SasError>
     ensures names { Gives fault_of (λ names. (names.items, cursor.new)) result
         (walk (times count (line Name)) cursor.old) }
@@ -59,7 +59,7 @@ fn read_names(alloc: Global, cursor: &mut Cursor, count: u64) -> Result<Vec<Seq<
 }
 
 /// The variable with this number, behind so many facts.
-#[tactic(auto, using(crate::proofs::Walking::walk_on), unfolding(crate::specs::TaskText::variable))]
+#[tactic(auto, using(crate::proofs::FormatWalks::walk_on), unfolding(crate::specs::TaskText::variable))]
 fn read_variable(
     alloc: Global,
     cursor: &mut Cursor,
@@ -119,7 +119,7 @@ pub fn read_variables(alloc: Global, cursor: &mut Cursor) -> Result<Vec<Variable
     read_so_many_variables(alloc, cursor, count)
 }
 
-#[tactic(auto, using(crate::proofs::Walking::row_none))]
+#[tactic(auto, using(crate::proofs::FormatWalks::row_none))]
 fn read_values(
     alloc: Global,
     cursor: &mut Cursor,
@@ -140,7 +140,7 @@ fn read_values(
 }
 
 /// The initial values.
-#[tactic(auto, using(crate::proofs::Walking::walk_on), unfolding(crate::specs::TaskText::state))]
+#[tactic(auto, using(crate::proofs::FormatWalks::walk_on), unfolding(crate::specs::TaskText::state))]
 pub fn read_state(
     alloc: Global,
     cursor: &mut Cursor,

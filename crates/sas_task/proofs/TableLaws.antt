@@ -17,9 +17,9 @@ use Rattle.sas_task.specs.Tables.{pair_cmp, Knows, Remembers, count_of, CountsFa
 use Rattle.sas_task.specs.declared.contents.Fact.{Fact}
 use Rattle.sas_task.specs.declared.contents.Effect.{Effect}
 use Rattle.sas_task.proofs.FactLists.{same-true, isn't, has-append}
-use Rattle.sas_task.proofs.Arranging.{filter-twice, prevail-none, prevail-some, effects_on-same, effects_on-other}
+use Rattle.sas_task.proofs.PreconditionOrder.{filter-twice, prevail-none, prevail-some, effects_on-same, effects_on-other}
 use Rattle.std.proofs.lemmas.Bool.{eqb-true as same_numbers}
-use Rattle.sas_task.proofs.Moving.{standing_from, standing_is, standing-more, prevail-nil}
+use Rattle.sas_task.proofs.MovedPreconditions.{standing_from, standing_is, standing-more, prevail-nil}
 
 -- pairs
 

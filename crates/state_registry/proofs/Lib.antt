@@ -1,3 +1,3 @@
-pub mod Interning
+pub mod StateLookUps
 pub mod Once
 pub mod Vectors

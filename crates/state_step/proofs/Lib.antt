@@ -1,4 +1,4 @@
-pub mod Looking
+pub mod OperatorTables
 pub mod RunLaws
 pub mod TableLaws
 pub mod RunEndLaws

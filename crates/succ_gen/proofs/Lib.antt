@@ -1,9 +1,9 @@
-pub mod Ascending
-pub mod Laying
+pub mod AscendingLists
+pub mod NodeLayout
 pub mod Levels
-pub mod Reaching
+pub mod TreeWalk
 pub mod Shapes
-pub mod Sorting
+pub mod SortedConditions
 pub mod Trees
 pub mod Ways
 pub mod ConditionLaws

@@ -1,11 +1,11 @@
 pub mod Delivered
-pub mod Fitting
+pub mod FittingParts
 pub mod Grown
 pub mod LineNames
 pub mod NamesRead
 pub mod Queues
 pub mod Ranges
-pub mod Reading
+pub mod ReadFormats
 pub mod SameFacts
 pub mod Says
 pub mod Sections

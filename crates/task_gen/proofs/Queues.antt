@@ -17,7 +17,7 @@ use Rattle.std.proofs.lemmas.Bool.{eqb-true as same_number}
 use Rattle.lama_num.proofs.BoolLaws.{nat_eq-refl as same_test}
 use Rattle.task_gen.proofs.SameFacts.{has-filter, effects_on-append}
 use Rattle.sas_task.proofs.FactLists.{Apart}
-use Rattle.sas_task.proofs.Moving.{prevail-nil}
+use Rattle.sas_task.proofs.MovedPreconditions.{prevail-nil}
 
 -- one more fact waits
 

@@ -25,7 +25,7 @@ use Rattle.sas_reader.specs.declared.sections.Section.TheVariants.{Version as In
 use Rattle.task_gen.specs.Printed.{spaced, number_or_none, fact_words, effect_line}
 use Rattle.task_gen.specs.ReadBack.{is_line_name}
 use Rattle.task_gen.proofs.Tested.{lt-from_test, few_values, PassesEffect, passes_effect}
-use Rattle.task_gen.proofs.Reading.{Says}
+use Rattle.task_gen.proofs.ReadFormats.{Says}
 use Rattle.task_gen.proofs.Spaced.{is_word, words_of-spaced, is_line-spaced, is_word-decimal, decimal_no_minus}
 
 -- fixed lines

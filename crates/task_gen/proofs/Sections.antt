@@ -29,7 +29,7 @@ use Rattle.task_gen.specs.Printed.{spaced, part, counted, version_lines, metric_
 use Rattle.task_gen.specs.ReadBack.{is_line_name, has_line_names}
 use Rattle.task_gen.proofs.Tested.{lt-from_test, all-filter, filter-all, few_values, passes_variable, passes_operator, passes_rule, passes_start}
 use Rattle.std.proofs.lemmas.Bool.{eqb-true as same_number}
-use Rattle.task_gen.proofs.Reading.{Says, Reads, reads_done, reads_line, reads_bind, reads_bind_line, reads_map, reads_times, reads_lines}
+use Rattle.task_gen.proofs.ReadFormats.{Says, Reads, reads_done, reads_line, reads_bind, reads_bind_line, reads_map, reads_times, reads_lines}
 use Rattle.task_gen.proofs.Says.{begins, ends as ends_says, three, zero_or_one, names, counts, layers, ranges, values, facts as fact_says, own_fact, effects as effect_says, head_words, heads}
 use Rattle.task_gen.proofs.NamesRead.{has_names}
 

@@ -1,5 +1,5 @@
 use Rattle.std.proofs.lemmas.Option.{slice_get-get_or}
-use Rattle.axiom_eval.proofs.Making.{conds_more, rule_below}
+use Rattle.axiom_eval.proofs.RuleTables.{conds_more, rule_below}
 use Rattle.axiom_eval.proofs.building.conds_of.Goals as goal
 
 pub loop-slot-preserved : goal.loop-slot-preserved

@@ -1,7 +1,7 @@
 use Rattle.std.proofs.Common.{◌≡◌, ◌∙◌, ◌<◌, ap, sym, refl, length, slice_get, Some, arith}
 use Rattle.std.proofs.lemmas.Option.{get_or_from_slice_get}
-use Rattle.axiom_eval.proofs.Resetting.{derived_none, derived_more, derived_same, derived_all}
-use Rattle.axiom_eval.proofs.Making.{read_at}
+use Rattle.axiom_eval.proofs.DefaultValues.{derived_none, derived_more, derived_same, derived_all}
+use Rattle.axiom_eval.proofs.RuleTables.{read_at}
 use Rattle.axiom_eval.proofs.building.derived_of.Goals as goal
 use Rattle.axiom_eval.proofs.building.derived_of.Goals.{then-is_some+in_ok-push, else-is_some}
 

@@ -1,4 +1,4 @@
-use Rattle.axiom_eval.proofs.Resetting.{AreDerivedTo}
+use Rattle.axiom_eval.proofs.DefaultValues.{AreDerivedTo}
 use Rattle.axiom_eval.proofs.building.derived_of.Given as goal
 
 abbrev pub invariant-loop-i : goal.invariant-loop-i

@@ -1,6 +1,6 @@
 use Rattle.std.proofs.Common.{refl}
 use Rattle.std.proofs.lemmas.Option.{slice_get-get_or}
-use Rattle.axiom_eval.proofs.Making.{heads_more, rule_below}
+use Rattle.axiom_eval.proofs.RuleTables.{heads_more, rule_below}
 use Rattle.axiom_eval.proofs.building.heads_of.Goals as goal
 
 pub loop-slot-preserved : goal.loop-slot-preserved

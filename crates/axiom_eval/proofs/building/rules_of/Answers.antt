@@ -1,7 +1,7 @@
 use Rattle.std.proofs.Common.{◌≡◌, ◌∙◌, ap, sym, arith, length, map}
 use Rattle.std.proofs.lemmas.List.{length-map}
 use Rattle.axiom_eval.specs.Building.{AreSlots, AreWatchers, head_of, conds_of}
-use Rattle.axiom_eval.proofs.Making.{slots_moved, slots_below, conds_within, are_rules}
+use Rattle.axiom_eval.proofs.RuleTables.{slots_moved, slots_below, conds_within, are_rules}
 use Rattle.axiom_eval.proofs.building.rules_of.Goals as goal
 
 pub heads_of-requires : goal.heads_of-requires

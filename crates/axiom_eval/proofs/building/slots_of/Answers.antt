@@ -1,5 +1,5 @@
 use Rattle.std.proofs.Common.{◌≡◌, ◌≤◌, ap, refl, length, slice_get, Some, arith}
-use Rattle.axiom_eval.proofs.Making.{slots_none, slots_more, slots_all, read_at}
+use Rattle.axiom_eval.proofs.RuleTables.{slots_none, slots_more, slots_all, read_at}
 use Rattle.axiom_eval.proofs.building.slots_of.Goals as goal
 
 pub loop-i-init : goal.loop-i-init

@@ -1,4 +1,4 @@
-use Rattle.axiom_eval.proofs.Making.{AreSlotsTo}
+use Rattle.axiom_eval.proofs.RuleTables.{AreSlotsTo}
 use Rattle.axiom_eval.proofs.building.slots_of.Given as goal
 
 abbrev pub invariant-loop-i : goal.invariant-loop-i

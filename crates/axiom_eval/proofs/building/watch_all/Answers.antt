@@ -1,8 +1,8 @@
 use Rattle.std.proofs.Common.{◌<◌, length, arith, nat_lt}
 use Rattle.std.proofs.lemmas.Bool.Decides.{nat_tests}
 use Rattle.sas_task.specs.Within.{is_within}
-use Rattle.axiom_eval.proofs.Resetting.{all_at}
-use Rattle.axiom_eval.proofs.Making.{watch_none, watch_more}
+use Rattle.axiom_eval.proofs.DefaultValues.{all_at}
+use Rattle.axiom_eval.proofs.RuleTables.{watch_none, watch_more}
 use Rattle.axiom_eval.proofs.building.watch_all.Goals as goal
 
 pub loop-fact-init : goal.loop-fact-init

@@ -1,5 +1,5 @@
 use Rattle.std.proofs.Common.{refl, arith}
-use Rattle.axiom_eval.proofs.Making.{watchers_none, watchers_more}
+use Rattle.axiom_eval.proofs.RuleTables.{watchers_none, watchers_more}
 use Rattle.axiom_eval.proofs.building.watchers_of.Goals as goal
 
 pub loop-place-init : goal.loop-place-init

@@ -1,7 +1,7 @@
 use Rattle.std.proofs.Common.{◌≡◌, ◌∙◌, ap, not, nat_eq, get_or, true, false, arith}
 use Rattle.std.proofs.lemmas.Bool.Decides.{nat_tests}
 use Rattle.sas_task.specs.States.{all_hold as facts_hold}
-use Rattle.axiom_eval.proofs.Hearing.{read_within, due_as, not_due_as}
+use Rattle.axiom_eval.proofs.TriedRules.{read_within, due_as, not_due_as}
 use Rattle.axiom_eval.proofs.layers.is_due_at.Goals as goal
 
 pub bounds-values-head : goal.bounds-values-head

@@ -1,7 +1,7 @@
 use Rattle.std.proofs.Common.{◌≡◌, ap}
 use Rattle.axiom_eval.specs.Rules.{head_at, layer_at}
 use Rattle.axiom_eval.specs.declared.tables.Head.{Head}
-use Rattle.axiom_eval.proofs.Hearing.{begins, begins_between, settles, head_read}
+use Rattle.axiom_eval.proofs.TriedRules.{begins, begins_between, settles, head_read}
 use Rattle.axiom_eval.proofs.layers.settle_layer.Goals as goal
 
 pub try_rules_of-end-requires-clause-hearing : goal.try_rules_of-end-requires-clause-hearing

@@ -1,6 +1,6 @@
 use Rattle.std.proofs.Common.{◌≡◌, ◌∙◌, sym, true}
 use Rattle.axiom_eval.specs.Rules.{is_due}
-use Rattle.axiom_eval.proofs.Hearing.{read_within, wrote_as, waits_as}
+use Rattle.axiom_eval.proofs.TriedRules.{read_within, wrote_as, waits_as}
 use Rattle.axiom_eval.proofs.layers.try_rule.Goals as goal
 
 pub bounds-values-head : goal.bounds-values-head

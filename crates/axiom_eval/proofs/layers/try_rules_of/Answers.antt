@@ -1,7 +1,7 @@
 use Rattle.std.proofs.Common.{◌≡◌, ◌∙◌, ◌<◌, sym, ℕ, length, nat_le, ◌+◌, arith}
 use Rattle.std.proofs.lemmas.Bool.Decides.{nat_tests}
 use Rattle.axiom_eval.specs.Rules.{layer_at}
-use Rattle.axiom_eval.proofs.Hearing.{tried, due_room, from_next, those_more, past_end}
+use Rattle.axiom_eval.proofs.TriedRules.{tried, due_room, from_next, those_more, past_end}
 use Rattle.axiom_eval.proofs.layers.try_rules_of.Goals as goal
 
 pub try_rule-requires-clause-room : goal.try_rule-requires-clause-room

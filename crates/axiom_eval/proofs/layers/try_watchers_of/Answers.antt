@@ -3,7 +3,7 @@ use Rattle.std.specs.Prelude.{vec_capacity}
 use Rattle.std.specs.List.{list_any}
 use Rattle.std.proofs.lemmas.Bool.Decides.{nat_tests}
 use Rattle.axiom_eval.specs.Rules.{layer_at}
-use Rattle.axiom_eval.proofs.Hearing.{Tried, tried, passed, due_room, watching_next, watcher_within}
+use Rattle.axiom_eval.proofs.TriedRules.{Tried, tried, passed, due_room, watching_next, watcher_within}
 use Rattle.axiom_eval.proofs.layers.try_watchers_of.Goals as goal
 use Rattle.axiom_eval.proofs.layers.try_watchers_of.Goals.{then-is_in, else-is_in}
 

@@ -1,6 +1,6 @@
 use Rattle.std.proofs.Common.{refl, length, nat_lt, arith}
 use Rattle.std.proofs.lemmas.Bool.Decides.{nat_tests}
-use Rattle.axiom_eval.proofs.Resetting.{all_at, reset_none, reset_more, reset_all}
+use Rattle.axiom_eval.proofs.DefaultValues.{all_at, reset_none, reset_more, reset_all}
 use Rattle.axiom_eval.specs.declared.tables.Derived.{Derived}
 use Rattle.axiom_eval.proofs.settling.reset_derived.Goals as goal
 

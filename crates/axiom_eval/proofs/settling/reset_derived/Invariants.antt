@@ -1,5 +1,5 @@
 use Rattle.std.proofs.Common.{take}
-use Rattle.axiom_eval.proofs.Resetting.{IsResetTo}
+use Rattle.axiom_eval.proofs.DefaultValues.{IsResetTo}
 use Rattle.axiom_eval.proofs.settling.reset_derived.Given as goal
 
 abbrev pub invariant-loop-variable : goal.invariant-loop-variable

@@ -1,6 +1,6 @@
 use Rattle.std.proofs.Common.{◌≡◌, Ok, rules}
 use Rattle.conf_text.specs.Grammar.{whole, config_of}
-use Rattle.conf_text.proofs.Accepting.{accepted}
+use Rattle.conf_text.proofs.WithinLimits.{accepted}
 use Rattle.conf_text.proofs.reading.read.Goals as goal
 
 pub returns-clause-accepted : goal.returns-clause-accepted

@@ -1,6 +1,6 @@
 use Rattle.std.proofs.Common.{◌<◌, ◌∙◌, ◌++◌, ◌∷◌, [], ap, ℕ, List, length, get_or, slice_set, arith, refl}
 use Rattle.std.proofs.lemmas.List.{get_or_default}
-use Rattle.h_add.proofs.Growing.{fact_added, below_at}
+use Rattle.h_add.proofs.ListGrowth.{fact_added, below_at}
 use Rattle.h_add.proofs.network.add_to_all.Goals as goal
 
 pub loop-fact-preserved : goal.loop-fact-preserved

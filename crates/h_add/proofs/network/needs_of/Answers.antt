@@ -1,6 +1,6 @@
 use Rattle.std.proofs.Common.{◌∙◌, ◌+◌, length, ap, arith, List, ℕ, []}
 use Rattle.std.proofs.lemmas.List.{length-replicate}
-use Rattle.h_add.proofs.Growing.{unaries_below}
+use Rattle.h_add.proofs.ListGrowth.{unaries_below}
 use Rattle.h_add.proofs.network.needs_of.Goals as goal
 
 pub add_each-requires-clause-facts : goal.add_each-requires-clause-facts

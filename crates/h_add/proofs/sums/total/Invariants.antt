@@ -1,5 +1,5 @@
 use Rattle.h_add.specs.Values.{value_at}
-use Rattle.h_add.proofs.Counting.{IsSumSoFar}
+use Rattle.h_add.proofs.ReachedSums.{IsSumSoFar}
 use Rattle.h_add.proofs.sums.total.Given as goal
 
 abbrev pub invariant-loop-fact : goal.invariant-loop-fact

@@ -3,7 +3,7 @@ use Rattle.std.proofs.lemmas.List.Filters.{dedup_is}
 use Rattle.std.proofs.lemmas.List.Kept.{Contains-dedup_nat, Contains-from_dedup}
 use Rattle.std.proofs.lemmas.List.Sorted.{Contains-permutation, IsPermutation-reverse, IsPermutation-sym, IsPermutation-trans}
 use Rattle.std.proofs.lemmas.Map.Keys.{IsStrictlyIncreasing-dedup}
-use Rattle.h_ff.proofs.Planning.{one_more}
+use Rattle.h_ff.proofs.RelaxedPlanLaws.{one_more}
 use Rattle.h_ff.proofs.keep.find.Goals as goal
 
 pub loop-k-preserved : goal.loop-k-preserved

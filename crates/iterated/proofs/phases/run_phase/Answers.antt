@@ -1,5 +1,5 @@
 use Rattle.std.proofs.Common.{◌∙◌}
-use Rattle.iterated.proofs.Showing.{run_ends, shows_so, no_memory}
+use Rattle.iterated.proofs.PhaseEndLaws.{run_ends, shows_so, no_memory}
 use Rattle.iterated.proofs.phases.run_phase.Goals as goal
 
 pub returns-clause-task : goal.returns-clause-task

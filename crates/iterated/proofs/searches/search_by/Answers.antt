@@ -1,4 +1,4 @@
-use Rattle.iterated.proofs.Searching.{searched_so}
+use Rattle.iterated.proofs.PhaseSearches.{searched_so}
 use Rattle.iterated.proofs.searches.search_by.Goals as goal
 
 pub returns-in-Ok-clause-searched : goal.returns-in-Ok-clause-searched

@@ -1,6 +1,6 @@
 use Rattle.std.proofs.Common.{rules, ◌≡◌, ◌+◌, ◌-◌, ◌*◌, ◌^◌, ◌<◌, ◌≤◌, ◌∙◌, length, true, get_or, arith}
 use Rattle.std.specs.Char.{is_ascii_digit}
-use Rattle.lama_num.proofs.Reading.{loop_digit, loop_large, loop_end}
+use Rattle.lama_num.proofs.DecimalDigits.{loop_digit, loop_large, loop_end}
 use Rattle.lama_num.proofs.decimals.read_decimal.Goals as goal
 
 pub returns-in_err-checked_mul : goal.returns-in_err-checked_mul

@@ -1,5 +1,5 @@
 use Rattle.std.proofs.Common.{◌≡◌, ◌<◌, ◌^◌, drop}
-use Rattle.lama_num.proofs.Reading.{decimal_on}
+use Rattle.lama_num.proofs.DecimalDigits.{decimal_on}
 use Rattle.lama_num.proofs.decimals.read_decimal.Given as goal
 
 abbrev pub invariant-loop-byte : goal.invariant-loop-byte

@@ -1,5 +1,5 @@
 use Rattle.std.proofs.Common.{◌<◌, ◌+◌, refl, arith}
-use Rattle.lazy_search.proofs.Clocking.{tells_same, tells_one, asks_none, asks_early, asks_late}
+use Rattle.lazy_search.proofs.ClockAnswers.{tells_same, tells_one, asks_none, asks_early, asks_late}
 use Rattle.lazy_search.proofs.searching.ask.Goals.{then-moment-stop-via-then-moment-stop, then-moment-stop-via-else-moment-stop+then-moment-stop-2}
 use Rattle.lazy_search.proofs.searching.ask.Goals as goal
 

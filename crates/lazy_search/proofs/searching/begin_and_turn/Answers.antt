@@ -3,8 +3,8 @@ use Rattle.search_log.specs.declared.turns.Pop.{Pop}
 use Rattle.lazy_search.specs.declared.steps.Turned.TheVariants.{Done, AtGoal}
 use Rattle.lazy_search.specs.Phases.{phase_of}
 use Rattle.lazy_search.specs.Ends.{IsAnswered}
-use Rattle.lazy_search.proofs.Clocking.{tells_same}
-use Rattle.lazy_search.proofs.Halting.{halts_goal, same_both, after_is, on_ok}
+use Rattle.lazy_search.proofs.ClockAnswers.{tells_same}
+use Rattle.lazy_search.proofs.HaltLaws.{halts_goal, same_both, after_is, on_ok}
 use Rattle.lazy_search.proofs.searching.begin_and_turn.Goals as goal
 
 pub begin-requires : goal.begin-requires

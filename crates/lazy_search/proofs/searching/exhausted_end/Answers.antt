@@ -1,7 +1,7 @@
 use Rattle.std.proofs.Common.{ap, ◌∙◌}
 use Rattle.std.specs.Prelude.{is_some}
 use Rattle.lazy_search.specs.Phases.{phase_of}
-use Rattle.lazy_search.proofs.Ending.{ends_in_space}
+use Rattle.lazy_search.proofs.PlanAndSpace.{ends_in_space}
 use Rattle.lazy_search.proofs.searching.exhausted_end.Goals as goal
 
 pub returns-in-None-clause-ends : goal.returns-in-None-clause-ends

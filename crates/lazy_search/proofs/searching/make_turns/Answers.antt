@@ -5,9 +5,9 @@ use Rattle.search_log.specs.Clocks.{unfinal}
 use Rattle.lazy_search.specs.declared.steps.Turned.TheVariants.{Empty, Done, AtGoal, AtFull}
 use Rattle.lazy_search.specs.Phases.{phase_of}
 use Rattle.lazy_search.specs.Ends.{IsAnswered}
-use Rattle.lazy_search.proofs.Clocking.{tells_same, tells_then, answered_final, asked_after, between_from, unfinal_one, length_one}
-use Rattle.lazy_search.proofs.Halting.{halts_empty, halts_goal, halts_full, halts_time, halts_done, halts_pops, same_both, after_is, pops_are, over_after}
-use Rattle.lazy_search.proofs.Ending.{lists_empty, exhausted_now, ends_at_pops}
+use Rattle.lazy_search.proofs.ClockAnswers.{tells_same, tells_then, answered_final, asked_after, between_from, unfinal_one, length_one}
+use Rattle.lazy_search.proofs.HaltLaws.{halts_empty, halts_goal, halts_full, halts_time, halts_done, halts_pops, same_both, after_is, pops_are, over_after}
+use Rattle.lazy_search.proofs.PlanAndSpace.{lists_empty, exhausted_now, ends_at_pops}
 use Rattle.lazy_search.proofs.searching.make_turns.Goals as goal
 
 pub loop-turn-init : goal.loop-turn-init

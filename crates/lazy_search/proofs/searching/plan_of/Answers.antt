@@ -3,7 +3,7 @@ use Rattle.lazy_search.specs.declared.paths.Origin.{Origin}
 use Rattle.lazy_search.specs.Origins.{AreEarlier, Traced}
 use Rattle.lazy_search.specs.Machines.{past_in}
 use Rattle.lazy_search.specs.Phases.{phase_of}
-use Rattle.lazy_search.proofs.Ending.{ends_in_plan, last_visit_there, row_of_last, origins_earlier}
+use Rattle.lazy_search.proofs.PlanAndSpace.{ends_in_plan, last_visit_there, row_of_last, origins_earlier}
 use Rattle.lazy_search.proofs.searching.plan_of.Goals as goal
 
 pub overflow_sub-visit : goal.overflow_sub-visit

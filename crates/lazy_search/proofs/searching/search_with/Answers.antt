@@ -2,8 +2,8 @@ use Rattle.std.proofs.Common.{◌≡◌, List, IfOk, sym, subst}
 use Rattle.lazy_search.specs.Phases.{phase_of}
 use Rattle.lazy_search.specs.Halts.{moment_at}
 use Rattle.lazy_search.specs.Ends.{EndsSo, EndHolds, ClockHolds, IsBetween, moment_by}
-use Rattle.lazy_search.proofs.Halting.{if_all, if_both}
-use Rattle.lazy_search.proofs.Answering.{halt_ends, tells, end_holds, clock_holds}
+use Rattle.lazy_search.proofs.HaltLaws.{if_all, if_both}
+use Rattle.lazy_search.proofs.SearchEnds.{halt_ends, tells, end_holds, clock_holds}
 use Rattle.lazy_search.proofs.searching.search_with.Goals as goal
 
 pub begin_and_turn-requires : goal.begin_and_turn-requires

@@ -6,9 +6,9 @@ use Rattle.search_log.specs.Spaces.{node_member}
 use Rattle.lazy_search.specs.declared.rows.LatestVisit.{LatestVisit}
 use Rattle.lazy_search.specs.Machines.{past_in, row_of}
 use Rattle.lazy_search.specs.Phases.{phase_of}
-use Rattle.lazy_search.proofs.Reaching.{row_there}
-use Rattle.lazy_search.proofs.Deciding.{rows_count, words_there}
-use Rattle.lazy_search.proofs.Ending.{space_more, space_few, node_there, take_front, take_whole, rows_few, is_kept, state_there}
+use Rattle.lazy_search.proofs.TakenEntries.{row_there}
+use Rattle.lazy_search.proofs.LookUps.{rows_count, words_there}
+use Rattle.lazy_search.proofs.PlanAndSpace.{space_more, space_few, node_there, take_front, take_whole, rows_few, is_kept, state_there}
 use Rattle.lazy_search.proofs.searching.space_of.Goals as goal
 
 pub loop-id-init : goal.loop-id-init

@@ -6,9 +6,9 @@ use Rattle.lazy_search.specs.declared.end.SearchEnd.{SearchEnd}
 use Rattle.lazy_search.specs.declared.end.SearchEnd.TheVariants.{Limit}
 use Rattle.lazy_search.specs.Phases.{phase_of}
 use Rattle.lazy_search.specs.Ends.{EndHolds, ClockHolds, IsAnswered, IsBetween, moment_by}
-use Rattle.lazy_search.proofs.Clocking.{tells_then, asks_first, between_from}
-use Rattle.lazy_search.proofs.Halting.{asks_over, if_both}
-use Rattle.lazy_search.proofs.Answering.{first_limit, phase_same, is_phase}
+use Rattle.lazy_search.proofs.ClockAnswers.{tells_then, asks_first, between_from}
+use Rattle.lazy_search.proofs.HaltLaws.{asks_over, if_both}
+use Rattle.lazy_search.proofs.SearchEnds.{first_limit, phase_same, is_phase}
 use Rattle.lazy_search.proofs.searching.try_search.Goals as goal
 
 pub returns-in-Some : goal.returns-in-Some

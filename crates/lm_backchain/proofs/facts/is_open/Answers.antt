@@ -2,7 +2,7 @@ use Rattle.std.proofs.Common.{arith}
 use Rattle.lama_num.proofs.ListLaws.{list_all_get}
 use Rattle.relaxed_task.proofs.NumberLaws.{fact_within}
 use Rattle.sas_task.specs.WellFormed.{is_fact}
-use Rattle.lm_backchain.proofs.Listing.{read_at}
+use Rattle.lm_backchain.proofs.ListLaws.{read_at}
 use Rattle.lm_backchain.proofs.facts.is_open.Goals as goal
 
 pub is_open_fact-requires-clause-fact : goal.is_open_fact-requires-clause-fact

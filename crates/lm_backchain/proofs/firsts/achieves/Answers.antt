@@ -1,6 +1,6 @@
 use Rattle.std.proofs.Common.{◌≡◌, ◌∙◌, sym, true, false}
 use Rattle.std.proofs.lemmas.Bool.{both_ways}
-use Rattle.lm_backchain.proofs.Finding.{both_reached, pre_reached, own_reached, front_facts}
+use Rattle.lm_backchain.proofs.FirstAchievers.{both_reached, pre_reached, own_reached, front_facts}
 use Rattle.lm_backchain.proofs.firsts.achieves.Goals as goal
 
 pub returns-then-not-has : goal.returns-then-not-has

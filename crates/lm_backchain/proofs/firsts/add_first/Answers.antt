@@ -2,7 +2,7 @@ use Rattle.std.proofs.Common.{◌∙◌, ◌+◌, ◌++◌, ◌∷◌, [], sym, 
 use Rattle.std.proofs.lemmas.Bool.{both_ways}
 use Rattle.sas_task.specs.declared.contents.Fact.{Fact}
 use Rattle.lm_backchain.specs.Firsts.{HasFirsts}
-use Rattle.lm_backchain.proofs.Finding.{conditions_there, firsts_more, firsts_same}
+use Rattle.lm_backchain.proofs.FirstAchievers.{conditions_there, firsts_more, firsts_same}
 use Rattle.lm_backchain.proofs.firsts.add_first.Goals as goal
 
 pub returns-in_ok-push : goal.returns-in_ok-push

@@ -1,5 +1,5 @@
 use Rattle.std.proofs.Common.{◌≤◌, length, arith}
-use Rattle.lm_backchain.proofs.Finding.{firsts_next}
+use Rattle.lm_backchain.proofs.FirstAchievers.{firsts_next}
 use Rattle.lm_backchain.proofs.firsts.add_firsts.Goals as goal
 
 pub loop-place-init : goal.loop-place-init

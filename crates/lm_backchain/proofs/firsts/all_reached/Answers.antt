@@ -4,8 +4,8 @@ use Rattle.lama_num.proofs.ListLaws.{list_all_get}
 use Rattle.sas_task.specs.WellFormed.{is_fact}
 use Rattle.lm_backchain.specs.Firsts.{AreReached}
 use Rattle.lm_backchain.proofs.FactLists.{has_at}
-use Rattle.lm_backchain.proofs.Finding.{reached_more}
-use Rattle.lm_backchain.proofs.Listing.{read_at, take_whole}
+use Rattle.lm_backchain.proofs.FirstAchievers.{reached_more}
+use Rattle.lm_backchain.proofs.ListLaws.{read_at, take_whole}
 use Rattle.lm_backchain.proofs.firsts.all_reached.Goals as goal
 
 pub loop-fact-init : goal.loop-fact-init

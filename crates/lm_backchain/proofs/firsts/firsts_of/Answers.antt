@@ -1,8 +1,8 @@
 use Rattle.std.proofs.Common.{◌≤◌, sym, subst, ℕ, List, length, arith}
 use Rattle.lm_backchain.specs.Firsts.{HasFirsts}
-use Rattle.lm_backchain.proofs.Finding.{no_firsts, firsts_done}
-use Rattle.lm_backchain.proofs.Giving.{given_within}
-use Rattle.lm_backchain.proofs.Listing.{read_at, take_more_at, take_whole}
+use Rattle.lm_backchain.proofs.FirstAchievers.{no_firsts, firsts_done}
+use Rattle.lm_backchain.proofs.GivingOperators.{given_within}
+use Rattle.lm_backchain.proofs.ListLaws.{read_at, take_more_at, take_whole}
 use Rattle.lm_backchain.proofs.firsts.firsts_of.Goals as goal
 
 pub loop-op-init : goal.loop-op-init

@@ -1,5 +1,5 @@
 use Rattle.std.proofs.Common.{◌∙◌}
-use Rattle.lm_backchain.proofs.Giving.{finds_more}
+use Rattle.lm_backchain.proofs.GivingOperators.{finds_more}
 use Rattle.lm_backchain.proofs.givers.make_table.Goals as goal
 
 pub loop-op-preserved : goal.loop-op-preserved

@@ -1,6 +1,6 @@
 use Rattle.std.proofs.Common.{◌∙◌, sym}
-use Rattle.lm_backchain.proofs.Coming.{greedy_set, this_gives, this_place, this_at, this_other, this_ordered, this_full, this_stays, set_within, stays_at}
-use Rattle.lm_backchain.proofs.Listing.{item}
+use Rattle.lm_backchain.proofs.NewNodes.{greedy_set, this_gives, this_place, this_at, this_other, this_ordered, this_full, this_stays, set_within, stays_at}
+use Rattle.lm_backchain.proofs.ListLaws.{item}
 use Rattle.lm_backchain.proofs.growing.add_before.Goals as goal
 
 pub add_node-requires-clause-set : goal.add_node-requires-clause-set

@@ -2,7 +2,7 @@ use Rattle.std.proofs.Common.{◌≡◌, ◌≤◌, ◌<◌, ◌∙◌, ◌++◌
 use Rattle.sas_task.specs.declared.contents.Fact.{Fact}
 use Rattle.lm_backchain.specs.Growth.{HasGoals}
 use Rattle.lm_backchain.proofs.GoalFacts.{works_begins}
-use Rattle.lm_backchain.proofs.Listing.{read_at, take_more_at, take_whole}
+use Rattle.lm_backchain.proofs.ListLaws.{read_at, take_more_at, take_whole}
 use Rattle.lm_backchain.proofs.growing.add_goals.Goals as goal
 
 pub loop-fact-preserved : goal.loop-fact-preserved

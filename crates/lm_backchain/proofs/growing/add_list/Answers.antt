@@ -1,8 +1,8 @@
 use Rattle.std.proofs.Common.{◌≤◌, length, subst, arith, List}
 use Rattle.sas_task.specs.declared.contents.Fact.{Fact}
 use Rattle.lm_backchain.specs.Growth.{Works}
-use Rattle.lm_backchain.proofs.Coming.{still_within, stayed, works_next}
-use Rattle.lm_backchain.proofs.Listing.{take_whole}
+use Rattle.lm_backchain.proofs.NewNodes.{still_within, stayed, works_next}
+use Rattle.lm_backchain.proofs.ListLaws.{take_whole}
 use Rattle.lm_backchain.proofs.growing.add_list.Goals as goal
 
 pub loop-at-init : goal.loop-at-init

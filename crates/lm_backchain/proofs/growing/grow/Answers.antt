@@ -2,7 +2,7 @@ use Rattle.std.proofs.Common.{◌≡◌, ◌∙◌, ℕ, [], ap, subst, sym, ref
 use Rattle.sas_task.specs.declared.contents.CostKind.TheVariants.{One}
 use Rattle.relaxed_task.specs.Relaxations.{IsRelaxed}
 use Rattle.lm_backchain.specs.Growth.{Works}
-use Rattle.lm_backchain.proofs.Coming.{none_kept}
+use Rattle.lm_backchain.proofs.NewNodes.{none_kept}
 use Rattle.lm_backchain.proofs.growing.grow.Goals as goal
 
 pub places-init : goal.places-init

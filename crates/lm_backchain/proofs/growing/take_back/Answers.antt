@@ -2,7 +2,7 @@ use Rattle.std.proofs.Common.{◌∙◌, sym, ap, subst, List, length, length-ap
 use Rattle.std.proofs.lemmas.Option.{same_Some}
 use Rattle.sas_task.specs.declared.contents.Fact.{Fact}
 use Rattle.lm_backchain.specs.Growth.{IsTakenBack}
-use Rattle.lm_backchain.proofs.Coming.{still_within, kept_more}
+use Rattle.lm_backchain.proofs.NewNodes.{still_within, kept_more}
 use Rattle.lm_backchain.proofs.Sound.{node_facts}
 use Rattle.lm_backchain.proofs.growing.take_back.Goals as goal
 

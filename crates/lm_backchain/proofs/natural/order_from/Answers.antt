@@ -1,6 +1,6 @@
 use Rattle.std.proofs.Common.{◌≡◌, ◌<◌, sym, Some, None, slice_get, length, arith}
-use Rattle.lm_backchain.proofs.Coming.{facts_within}
-use Rattle.lm_backchain.proofs.Listing.{item}
+use Rattle.lm_backchain.proofs.NewNodes.{facts_within}
+use Rattle.lm_backchain.proofs.ListLaws.{item}
 use Rattle.lm_backchain.proofs.Strong.{row_without}
 use Rattle.lm_backchain.proofs.natural.order_from.Goals as goal
 

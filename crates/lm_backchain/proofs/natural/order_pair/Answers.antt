@@ -1,6 +1,6 @@
 use Rattle.std.proofs.Common.{◌<◌, refl, length, arith}
 use Rattle.std.proofs.lemmas.Bool.{both_ways}
-use Rattle.lm_backchain.proofs.Listing.{item}
+use Rattle.lm_backchain.proofs.ListLaws.{item}
 use Rattle.lm_backchain.proofs.Strong.{pair_itself, pair_natural, pair_same, pair_test}
 use Rattle.lm_backchain.proofs.natural.order_pair.Goals as goal
 

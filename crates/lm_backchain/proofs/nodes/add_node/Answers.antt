@@ -1,6 +1,6 @@
 use Rattle.std.proofs.Common.{◌∙◌, ap, length, arith}
 use Rattle.lm_backchain.proofs.Costs.{given_node}
-use Rattle.lm_backchain.proofs.Giving.{given_within}
+use Rattle.lm_backchain.proofs.GivingOperators.{given_within}
 use Rattle.lm_backchain.proofs.nodes.add_node.Goals as goal
 
 pub least_cost-least-requires : goal.least_cost-least-requires

@@ -1,6 +1,6 @@
 use Rattle.std.proofs.Common.{ap, Some}
 use Rattle.lm_backchain.proofs.Costs.{cost_more}
-use Rattle.lm_backchain.proofs.Listing.{read_at}
+use Rattle.lm_backchain.proofs.ListLaws.{read_at}
 use Rattle.lm_backchain.proofs.nodes.least_cost.Goals as goal
 
 pub loop-op-preserved : goal.loop-op-preserved

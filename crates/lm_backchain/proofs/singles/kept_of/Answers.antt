@@ -2,7 +2,7 @@ use Rattle.std.proofs.Common.{◌≡◌, ◌<◌, List, [], ◌∷◌, length, g
 use Rattle.lama_num.proofs.ListLaws.{list_all_get}
 use Rattle.sas_task.specs.WellFormed.{is_fact}
 use Rattle.sas_task.specs.declared.contents.Fact.{Fact}
-use Rattle.lm_backchain.proofs.Listing.{read_at}
+use Rattle.lm_backchain.proofs.ListLaws.{read_at}
 use Rattle.lm_backchain.proofs.singles.kept_of.Goals as goal
 
 only : (facts : List Fact) (d : Fact) → length facts ≡ 1 → facts ≡ get_or facts 0 d ∷ []

@@ -1,5 +1,5 @@
 use Rattle.std.proofs.lemmas.Bool.{both_ways}
-use Rattle.lm_backchain.proofs.Asking.{adds_set, adds_none, collected_facts}
+use Rattle.lm_backchain.proofs.SharedConditions.{adds_set, adds_none, collected_facts}
 use Rattle.lm_backchain.proofs.taking_back.add_set.Goals as goal
 
 pub is_set_for-requires-clause-facts : goal.is_set_for-requires-clause-facts

@@ -1,7 +1,7 @@
 use Rattle.std.proofs.Common.{◌≡◌, ◌∙◌, sym, ap, Some, None}
 use Rattle.std.specs.Prelude.{option_map}
 use Rattle.sas_task.specs.Facts.{predicate_of}
-use Rattle.lm_backchain.proofs.Asking.{sets_more, sets_same}
+use Rattle.lm_backchain.proofs.SharedConditions.{sets_more, sets_same}
 use Rattle.lm_backchain.proofs.taking_back.add_set_of.Goals as goal
 
 pub returns-in_ok-add_set-in-Some : goal.returns-in_ok-add_set-in-Some

@@ -1,8 +1,8 @@
 use Rattle.std.proofs.Common.{◌≡◌, ◌≤◌, length, true, false, refl, arith, subst}
 use Rattle.std.proofs.lemmas.Bool.{both_ways}
 use Rattle.lm_backchain.specs.Asked.{AllAsk}
-use Rattle.lm_backchain.proofs.Asking.{ask_more}
-use Rattle.lm_backchain.proofs.Listing.{item, take_whole, among_none}
+use Rattle.lm_backchain.proofs.SharedConditions.{ask_more}
+use Rattle.lm_backchain.proofs.ListLaws.{item, take_whole, among_none}
 use Rattle.lm_backchain.proofs.taking_back.all_ask.Goals as goal
 
 pub loop-conds-init : goal.loop-conds-init

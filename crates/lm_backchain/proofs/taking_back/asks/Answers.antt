@@ -2,9 +2,9 @@ use Rattle.std.proofs.Common.{◌≡◌, ◌≤◌, length, true, false, refl, a
 use Rattle.std.proofs.lemmas.Bool.{both_ways}
 use Rattle.sas_task.specs.declared.contents.Fact.{Fact}
 use Rattle.lm_backchain.specs.Asked.{IsOf}
-use Rattle.lm_backchain.proofs.Asking.{no_of, none_more}
+use Rattle.lm_backchain.proofs.SharedConditions.{no_of, none_more}
 use Rattle.lm_backchain.proofs.FactLists.{has_at}
-use Rattle.lm_backchain.proofs.Listing.{read_at, take_whole}
+use Rattle.lm_backchain.proofs.ListLaws.{read_at, take_whole}
 use Rattle.lm_backchain.proofs.taking_back.asks.Goals as goal
 
 pub loop-fact-init : goal.loop-fact-init

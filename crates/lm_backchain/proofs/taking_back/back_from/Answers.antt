@@ -1,8 +1,8 @@
 use Rattle.std.proofs.Common.{◌<◌, ◌∙◌, ◌++◌, ap, sym, subst, length, refl, List}
 use Rattle.sas_task.specs.declared.contents.Fact.{Fact}
 use Rattle.lm_backchain.specs.Growth.{IsTakenBack}
-use Rattle.lm_backchain.proofs.Asking.{taken_back_none, taken_back_from, nothing_there, something_there}
-use Rattle.lm_backchain.proofs.Listing.{item}
+use Rattle.lm_backchain.proofs.SharedConditions.{taken_back_none, taken_back_from, nothing_there, something_there}
+use Rattle.lm_backchain.proofs.ListLaws.{item}
 use Rattle.lm_backchain.proofs.taking_back.back_from.Goals as goal
 
 pub returns-then-is_empty : goal.returns-then-is_empty

@@ -1,8 +1,8 @@
 use Rattle.std.proofs.Common.{◌≤◌, [], length, arith, subst, refl, List}
 use Rattle.sas_task.specs.declared.contents.Fact.{Fact}
 use Rattle.lm_backchain.specs.Asked.{IsAsked, Collects}
-use Rattle.lm_backchain.proofs.Asking.{collects_none, no_asked, asked_next}
-use Rattle.lm_backchain.proofs.Listing.{item, take_whole}
+use Rattle.lm_backchain.proofs.SharedConditions.{collects_none, no_asked, asked_next}
+use Rattle.lm_backchain.proofs.ListLaws.{item, take_whole}
 use Rattle.lm_backchain.proofs.taking_back.collect.Goals as goal
 
 pub loop-conds-init : goal.loop-conds-init

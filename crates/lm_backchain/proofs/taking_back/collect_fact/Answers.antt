@@ -2,7 +2,7 @@ use Rattle.std.proofs.Common.{◌∙◌, sym, ap, arith}
 use Rattle.std.proofs.lemmas.Bool.{both_ways}
 use Rattle.sas_task.specs.Facts.{predicate_of}
 use Rattle.lm_backchain.specs.Asked.{IsFactOf}
-use Rattle.lm_backchain.proofs.Asking.{collects_full, collects_one, collects_none}
+use Rattle.lm_backchain.proofs.SharedConditions.{collects_full, collects_one, collects_none}
 use Rattle.lm_backchain.proofs.taking_back.collect_fact.Goals as goal
 
 pub returns-then-len-gt4 : goal.returns-then-len-gt4

@@ -1,8 +1,8 @@
 use Rattle.std.proofs.Common.{◌≤◌, [], length, arith, subst, List}
 use Rattle.sas_task.specs.declared.contents.Fact.{Fact}
 use Rattle.lm_backchain.specs.Asked.{IsOf, Collects}
-use Rattle.lm_backchain.proofs.Asking.{collects_none, no_of, of_next}
-use Rattle.lm_backchain.proofs.Listing.{read_at, take_whole}
+use Rattle.lm_backchain.proofs.SharedConditions.{collects_none, no_of, of_next}
+use Rattle.lm_backchain.proofs.ListLaws.{read_at, take_whole}
 use Rattle.lm_backchain.proofs.taking_back.collect_from.Goals as goal
 
 pub loop-fact-init : goal.loop-fact-init

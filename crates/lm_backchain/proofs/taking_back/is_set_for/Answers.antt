@@ -1,6 +1,6 @@
 use Rattle.std.proofs.Common.{◌≡◌, ◌≤◌, ◌∙◌, sym, false, true, length, arith}
 use Rattle.std.proofs.lemmas.Bool.{both_ways}
-use Rattle.lm_backchain.proofs.Asking.{set_from}
+use Rattle.lm_backchain.proofs.SharedConditions.{set_from}
 use Rattle.lm_backchain.proofs.taking_back.is_set_for.Goals as goal
 
 pub returns-then-count-lt2 : goal.returns-then-count-lt2

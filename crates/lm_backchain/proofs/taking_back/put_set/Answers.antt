@@ -1,6 +1,6 @@
 use Rattle.std.proofs.Common.{◌∙◌, ap}
 use Rattle.std.specs.Prelude.{insert}
-use Rattle.lm_backchain.proofs.Asking.{puts_set}
+use Rattle.lm_backchain.proofs.SharedConditions.{puts_set}
 use Rattle.lm_backchain.proofs.taking_back.put_set.Goals as goal
 
 pub returns : goal.returns

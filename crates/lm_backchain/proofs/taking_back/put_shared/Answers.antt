@@ -2,7 +2,7 @@ use Rattle.std.proofs.Common.{◌∙◌, sym}
 use Rattle.sas_task.specs.Facts.{same_fact}
 use Rattle.lm_backchain.specs.Asked.{all_have}
 use Rattle.lm_backchain.specs.Backchain.{has}
-use Rattle.lm_backchain.proofs.Asking.{and_yes, and_no}
+use Rattle.lm_backchain.proofs.SharedConditions.{and_yes, and_no}
 use Rattle.lm_backchain.proofs.taking_back.put_shared.Goals as goal
 
 pub returns-in_ok-put_fact-clause-has : goal.returns-in_ok-put_fact-clause-has

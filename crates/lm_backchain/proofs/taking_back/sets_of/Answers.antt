@@ -1,8 +1,8 @@
 use Rattle.std.proofs.Common.{◌≤◌, length, arith, sym, subst, take, List}
 use Rattle.sas_task.specs.declared.contents.Fact.{Fact}
 use Rattle.lm_backchain.specs.Asked.{HasSets}
-use Rattle.lm_backchain.proofs.Asking.{no_sets}
-use Rattle.lm_backchain.proofs.Listing.{read_at, take_more_at, take_whole}
+use Rattle.lm_backchain.proofs.SharedConditions.{no_sets}
+use Rattle.lm_backchain.proofs.ListLaws.{read_at, take_more_at, take_whole}
 use Rattle.lm_backchain.proofs.taking_back.sets_of.Goals as goal
 
 pub loop-seed-init : goal.loop-seed-init

@@ -2,8 +2,8 @@ use Rattle.std.proofs.Common.{◌≤◌, ◌∙◌, ◌&&◌, ap, length, refl, 
 use Rattle.sas_task.specs.declared.contents.Fact.{Fact}
 use Rattle.lm_backchain.specs.Asked.{all_have}
 use Rattle.lm_backchain.specs.Backchain.{has}
-use Rattle.lm_backchain.proofs.Asking.{shared_more}
-use Rattle.lm_backchain.proofs.Listing.{read_at, take_whole}
+use Rattle.lm_backchain.proofs.SharedConditions.{shared_more}
+use Rattle.lm_backchain.proofs.ListLaws.{read_at, take_whole}
 use Rattle.lm_backchain.proofs.taking_back.shared.Goals as goal
 
 pub loop-fact-init : goal.loop-fact-init

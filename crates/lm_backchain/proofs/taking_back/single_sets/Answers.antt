@@ -1,8 +1,8 @@
 use Rattle.std.proofs.Common.{◌≤◌, ◌∙◌, ◌++◌, ◌∷◌, [], sym, ap, length, arith, List, take}
 use Rattle.sas_task.specs.declared.contents.Fact.{Fact}
 use Rattle.lm_backchain.specs.Backchain.{singles}
-use Rattle.lm_backchain.proofs.Asking.{single_more}
-use Rattle.lm_backchain.proofs.Listing.{read_at, take_whole}
+use Rattle.lm_backchain.proofs.SharedConditions.{single_more}
+use Rattle.lm_backchain.proofs.ListLaws.{read_at, take_whole}
 use Rattle.lm_backchain.proofs.taking_back.single_sets.Goals as goal
 
 pub loop-fact-preserved : goal.loop-fact-preserved

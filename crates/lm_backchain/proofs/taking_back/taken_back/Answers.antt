@@ -1,7 +1,7 @@
 use Rattle.std.proofs.Common.{◌∙◌, sym, None}
 use Rattle.std.proofs.lemmas.Bool.{both_ways}
-use Rattle.lm_backchain.proofs.Asking.{taken_back_closed}
-use Rattle.lm_backchain.proofs.Finding.{knows_from, start_long}
+use Rattle.lm_backchain.proofs.SharedConditions.{taken_back_closed}
+use Rattle.lm_backchain.proofs.FirstAchievers.{knows_from, start_long}
 use Rattle.lm_backchain.proofs.Sound.{first_facts}
 use Rattle.lm_backchain.proofs.taking_back.taken_back.Goals as goal
 

@@ -1,4 +1,4 @@
-use Rattle.lm_graph.proofs.Looking.{key_added}
+use Rattle.lm_graph.proofs.FactLookUps.{key_added}
 use Rattle.lm_graph.proofs.graph.push_node.Goals as goal
 
 pub returns-clause-keys : goal.returns-clause-keys

@@ -1,6 +1,6 @@
 use Rattle.std.proofs.Common.{◌≡◌, ◌∙◌, ap, arith, ◌≤◌, ◌<◌, length}
 use Rattle.std.proofs.lemmas.List.{length-replicate}
-use Rattle.lm_graph.proofs.Marking.{none_in_step, flood_begins, flood_goes_on, flood_ends, next_within, row_within}
+use Rattle.lm_graph.proofs.MarkLaws.{none_in_step, flood_begins, flood_goes_on, flood_ends, next_within, row_within}
 use Rattle.lm_graph.proofs.reach.flood.Goals as goal
 
 pub mark_row-requires-clause-within : goal.mark_row-requires-clause-within

@@ -1,6 +1,6 @@
 use Rattle.std.proofs.Common.{◌∙◌, sym, refl, get_or}
 use Rattle.lm_graph.specs.Rows.{past_end}
-use Rattle.lm_graph.proofs.Marking.{row_yes, row_no}
+use Rattle.lm_graph.proofs.MarkLaws.{row_yes, row_no}
 use Rattle.lm_graph.proofs.reach.mark_row.Goals as goal
 use Rattle.lm_graph.proofs.reach.mark_row.Goals.{then-is_as_strong+in_ok-mark, else-is_as_strong}
 

@@ -1,6 +1,6 @@
 use Rattle.std.proofs.Common.{◌≡◌, arith, length}
-use Rattle.lm_graph.proofs.Marking.{row_within}
-use Rattle.lm_graph.proofs.Turning.{turned_all}
+use Rattle.lm_graph.proofs.MarkLaws.{row_within}
+use Rattle.lm_graph.proofs.TurnedRows.{turned_all}
 use Rattle.lm_graph.proofs.successors.turn.Goals as goal
 
 pub turn_row-requires-clause-within : goal.turn_row-requires-clause-within

@@ -1,4 +1,4 @@
-use Rattle.lm_graph.proofs.Turning.{TurnedBelow}
+use Rattle.lm_graph.proofs.TurnedRows.{TurnedBelow}
 use Rattle.lm_graph.proofs.successors.turn.Given as goal
 
 abbrev pub invariant-loop-after : goal.invariant-loop-after

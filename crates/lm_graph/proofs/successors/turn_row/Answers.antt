@@ -1,7 +1,7 @@
 use Rattle.std.proofs.Common.{refl, get_or}
 use Rattle.std.proofs.lemmas.Option.{slice_get-get_or}
 use Rattle.lm_graph.specs.Rows.{past_end}
-use Rattle.lm_graph.proofs.Turning.{turn_more}
+use Rattle.lm_graph.proofs.TurnedRows.{turn_more}
 use Rattle.lm_graph.proofs.successors.turn_row.Goals as goal
 
 pub loop-edge-preserved : goal.loop-edge-preserved

@@ -1,6 +1,6 @@
 use Rattle.std.proofs.Common.{◌≡◌, ap, subst, ℕ, length, arith}
 use Rattle.lm_orders.specs.Reasonable.{AddsBefore, AddsSome}
-use Rattle.lm_orders.proofs.Turning.{adds_none, some_pairs, on_error}
+use Rattle.lm_orders.proofs.PairOrder.{adds_none, some_pairs, on_error}
 use Rattle.lm_orders.proofs.adding.add_reasonable.Goals as goal
 
 pub returns-in_err-tables-clause-err : goal.returns-in_err-tables-clause-err

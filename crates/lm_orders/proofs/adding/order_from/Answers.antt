@@ -5,7 +5,7 @@ use Rattle.lm_graph.specs.Graphs.{Content}
 use Rattle.lm_orders.specs.Interference.{fact_of}
 use Rattle.lm_orders.specs.Reasonable.{AddsBefore, AddsSome}
 use Rattle.lm_orders.specs.Sources.{IsUnderWay}
-use Rattle.lm_orders.proofs.Turning.{source_begins, some_fact, no_fact, some_pairs, on_error, row_ends, row_without}
+use Rattle.lm_orders.proofs.PairOrder.{source_begins, some_fact, no_fact, some_pairs, on_error, row_ends, row_without}
 use Rattle.lm_orders.proofs.adding.order_from.Goals as goal
 
 pub returns-then-is_none-clause-ok : goal.returns-then-is_none-clause-ok

@@ -1,5 +1,5 @@
 use Rattle.std.proofs.lemmas.Bool.{both_ways}
-use Rattle.lm_orders.proofs.Turning.{step_yes, step_no}
+use Rattle.lm_orders.proofs.PairOrder.{step_yes, step_no}
 use Rattle.lm_orders.proofs.adding.order_pair.Goals as goal
 
 pub order-requires-clause-different : goal.order-requires-clause-different

@@ -1,5 +1,5 @@
 use Rattle.std.proofs.Common.{◌<◌, length, arith}
-use Rattle.lm_orders.proofs.Indexing.{indexes_next}
+use Rattle.lm_orders.proofs.RowsByFact.{indexes_next}
 use Rattle.lm_orders.proofs.givers.index.Goals as goal
 
 pub loop-number-preserved : goal.loop-number-preserved

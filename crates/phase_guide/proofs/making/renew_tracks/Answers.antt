@@ -1,4 +1,4 @@
-use Rattle.phase_guide.proofs.Taking.{landmarks_after}
+use Rattle.phase_guide.proofs.CarriedOver.{landmarks_after}
 use Rattle.phase_guide.proofs.making.renew_tracks.Goals as goal
 
 pub returns-then-has_landmarks_for-clause-landmarks : goal.returns-then-has_landmarks_for-clause-landmarks

@@ -1,4 +1,4 @@
-use Rattle.phase_guide.proofs.Telling.{tells_additive}
+use Rattle.phase_guide.proofs.EvaluatorAnswers.{tells_additive}
 use Rattle.phase_guide.proofs.relaxing.evaluate_add.Goals as goal
 
 pub returns-clause-tells : goal.returns-clause-tells

@@ -2,7 +2,7 @@ use Rattle.std.proofs.Common.{◌∙◌, sym, subst, List, ℕ, []}
 use Rattle.relaxed_task.specs.Relaxations.{IsRelaxed}
 use Rattle.relaxed_task.specs.declared.relaxation.Lists.{Lists}
 use Rattle.h_add.specs.Values.{IsEvaluated}
-use Rattle.phase_guide.proofs.Telling.{of_goals, tells_planning}
+use Rattle.phase_guide.proofs.EvaluatorAnswers.{of_goals, tells_planning}
 use Rattle.phase_guide.proofs.relaxing.evaluate_ff.Goals as goal
 
 pub returns-clause-tells : goal.returns-clause-tells

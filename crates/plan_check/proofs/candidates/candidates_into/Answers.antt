@@ -1,7 +1,7 @@
 use Rattle.std.proofs.Common.{◌≡◌, ◌∙◌, ◌<◌, ◌+◌, sym, ap, arith, length, Some, subst}
 use Rattle.std.proofs.lemmas.Option.{slice_get_within}
 use Rattle.plan_check.specs.Names.{next_of}
-use Rattle.plan_check.proofs.Naming.{IsNext, LeadsOn, left_of, leads_first, leads_here, leads_on, left_less, named_is, next_read}
+use Rattle.plan_check.proofs.NamedOperators.{IsNext, LeadsOn, left_of, leads_first, leads_here, leads_on, left_less, named_is, next_read}
 use Rattle.plan_check.proofs.candidates.candidates_into.Goals as goal
 use Rattle.plan_check.proofs.candidates.candidates_into.Goals.{then-applicable+in_ok-push, else-applicable}
 

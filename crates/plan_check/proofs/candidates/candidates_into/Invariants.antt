@@ -1,5 +1,5 @@
 use Rattle.std.proofs.Common.{length}
-use Rattle.plan_check.proofs.Naming.{LeadsOn, left_of}
+use Rattle.plan_check.proofs.NamedOperators.{LeadsOn, left_of}
 use Rattle.plan_check.proofs.candidates.candidates_into.Given as goal
 
 abbrev pub invariant-loop-at : goal.invariant-loop-at

@@ -2,7 +2,7 @@ use Rattle.std.proofs.Common.{◌∙◌, ap, length, take, ℕ, Vec}
 use Rattle.std.specs.Prelude.{option_map}
 use Rattle.std.specs.declared.alloc.Global.{Global}
 use Rattle.plan_check.specs.Verdicts.{ends}
-use Rattle.plan_check.proofs.Finding.{leads_at, least_is, plan_some, plan_none}
+use Rattle.plan_check.proofs.LastLayer.{leads_at, least_is, plan_some, plan_none}
 use Rattle.plan_check.proofs.choosing.choose_plan.Goals as goal
 use Rattle.plan_check.proofs.choosing.choose_plan.Goals.{in-Some+in_ok-trace-in-Some, in-None}
 

@@ -5,7 +5,7 @@ use Rattle.lama_num.specs.Gives.{Fails}
 use Rattle.plan_check.specs.Refusals.{fault_of}
 use Rattle.plan_check.specs.Verdicts.{first_fault, first_plan, least_cost, plan_in}
 use Rattle.plan_check.proofs.Good.{plan_in-long}
-use Rattle.plan_check.proofs.Telling.{step_refused, end_refused, plan_told}
+use Rattle.plan_check.proofs.PlanParts.{step_refused, end_refused, plan_told}
 use Rattle.plan_check.proofs.judging.plan_in.Goals as goal
 
 pub returns-in_err-chosen-clause-plan : goal.returns-in_err-chosen-clause-plan

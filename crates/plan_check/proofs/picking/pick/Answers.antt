@@ -1,5 +1,5 @@
 use Rattle.std.proofs.Common.{◌<◌, refl, arith, length}
-use Rattle.plan_check.proofs.Reaching.{least_place, first_place, within_more}
+use Rattle.plan_check.proofs.GoalChoices.{least_place, first_place, within_more}
 use Rattle.plan_check.proofs.picking.pick.Goals as goal
 
 pub loop-place-preserved : goal.loop-place-preserved

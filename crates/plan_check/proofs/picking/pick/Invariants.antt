@@ -4,7 +4,7 @@ use Rattle.std.specs.List.{find}
 use Rattle.plan_check.specs.Verdicts.{is_plan_at}
 use Rattle.plan_check.specs.Layers.{AreEnds}
 use Rattle.plan_check.specs.Walking.{IsWalker}
-use Rattle.plan_check.proofs.Reaching.{least_so_far}
+use Rattle.plan_check.proofs.GoalChoices.{least_so_far}
 use Rattle.plan_check.proofs.picking.pick.Given as goal
 
 abbrev pub invariant-loop-place : goal.invariant-loop-place

@@ -1,6 +1,6 @@
 use Rattle.std.proofs.Common.{◌≡◌, ◌<◌, ◌-◌, ◌+◌, subst, suc, length, get_or, arith, rules, []}
 use Rattle.std.proofs.lemmas.Option.{slice_get_within, slice_get-get_or}
-use Rattle.plan_check.proofs.Leading.{IsTraced, traced_first, traced_at, traced_more, traced_all}
+use Rattle.plan_check.proofs.LinkPaths.{IsTraced, traced_first, traced_at, traced_more, traced_all}
 use Rattle.plan_check.proofs.tracing.trace.Goals as goal
 
 pub loop-init : goal.loop-init

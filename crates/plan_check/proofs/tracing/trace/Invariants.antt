@@ -1,5 +1,5 @@
 use Rattle.std.proofs.Common.{◌-◌}
-use Rattle.plan_check.proofs.Leading.{IsTraced}
+use Rattle.plan_check.proofs.LinkPaths.{IsTraced}
 use Rattle.plan_check.proofs.tracing.trace.Given as goal
 
 abbrev pub invariant-loop : goal.invariant-loop

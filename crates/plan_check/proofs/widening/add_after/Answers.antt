@@ -5,8 +5,8 @@ use Rattle.sas_task.specs.States.{step}
 use Rattle.sas_task.proofs.RunLaws.{step-state}
 use Rattle.packed_state.specs.Packing.{CanHold}
 use Rattle.plan_check.specs.Layers.{pair_words}
-use Rattle.plan_check.proofs.Leading.{kept_more}
-use Rattle.plan_check.proofs.Layering.{step_more}
+use Rattle.plan_check.proofs.LinkPaths.{kept_more}
+use Rattle.plan_check.proofs.LayerPairs.{step_more}
 use Rattle.plan_check.proofs.widening.add_after.Goals as goal
 
 pub add_pair-requires : goal.add_pair-requires

@@ -5,7 +5,7 @@ use Rattle.plan_check.specs.Choices.{candidates}
 use Rattle.plan_check.specs.Verdicts.{ends}
 use Rattle.plan_check.specs.Layers.{IsEnd}
 use Rattle.plan_check.proofs.Ends.{applicable_of}
-use Rattle.plan_check.proofs.Layering.{place_in, part_none, part_more, part_all, room_yes, room_no}
+use Rattle.plan_check.proofs.LayerPairs.{place_in, part_none, part_more, part_all, room_yes, room_no}
 use Rattle.plan_check.proofs.widening.fill.Goals as goal
 
 pub loop-place-init : goal.loop-place-init

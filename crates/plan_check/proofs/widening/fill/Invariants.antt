@@ -1,5 +1,5 @@
 use Rattle.plan_check.specs.Walking.{IsWalker}
-use Rattle.plan_check.proofs.Layering.{IsPart}
+use Rattle.plan_check.proofs.LayerPairs.{IsPart}
 use Rattle.plan_check.proofs.widening.fill.Given as goal
 
 abbrev pub invariant-loop-place : goal.invariant-loop-place

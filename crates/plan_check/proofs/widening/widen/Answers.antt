@@ -6,7 +6,7 @@ use Rattle.lama_num.proofs.ListLaws.{list_all_get}
 use Rattle.sas_task.specs.States.{IsState}
 use Rattle.state_step.specs.Steps.{is_applicable}
 use Rattle.plan_check.specs.Layers.{EndsAt, IsGrowing, longer}
-use Rattle.plan_check.proofs.Layering.{longer_more, still_many, longer_split, end_kept, taken_at}
+use Rattle.plan_check.proofs.LayerPairs.{longer_more, still_many, longer_split, end_kept, taken_at}
 use Rattle.plan_check.proofs.widening.widen.Goals as goal
 
 pub loop-i-init : goal.loop-i-init

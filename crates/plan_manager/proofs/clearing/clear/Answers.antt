@@ -1,5 +1,5 @@
 use Rattle.std.proofs.Common.{◌∙◌}
-use Rattle.plan_manager.proofs.Removing.{removed_as, part_failed, clears_all}
+use Rattle.plan_manager.proofs.RemovedNames.{removed_as, part_failed, clears_all}
 use Rattle.plan_manager.proofs.clearing.clear.Goals as goal
 
 pub returns-in_err-remove-clause-changes : goal.returns-in_err-remove-clause-changes

@@ -2,7 +2,7 @@ use Rattle.std.proofs.Common.{subst}
 use Rattle.lama_host.specs.Folder.{Changes}
 use Rattle.lama_num.specs.Names.{child_name}
 use Rattle.plan_manager.specs.Clearing.{ClearsBetween}
-use Rattle.plan_manager.proofs.Removing.{clears_family}
+use Rattle.plan_manager.proofs.RemovedNames.{clears_family}
 use Rattle.plan_manager.proofs.clearing.clear_child.Goals as goal
 
 pub returns-clause-changes : goal.returns-clause-changes

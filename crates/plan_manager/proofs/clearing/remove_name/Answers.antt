@@ -1,5 +1,5 @@
 use Rattle.std.proofs.Common.{◌∙◌}
-use Rattle.plan_manager.proofs.Removing.{removed_as}
+use Rattle.plan_manager.proofs.RemovedNames.{removed_as}
 use Rattle.plan_manager.proofs.clearing.remove_name.Goals as goal
 
 pub returns-clause-changes : goal.returns-clause-changes

@@ -1,6 +1,6 @@
 use Rattle.std.proofs.Common.{arith}
 use Rattle.lama_host.proofs.StepLaws.{keeps_then, keeps_ok, keeps_none, keeps_failed}
-use Rattle.plan_manager.proofs.Removing.{one_more, one_failed, all_taken, none_taken}
+use Rattle.plan_manager.proofs.RemovedNames.{one_more, one_failed, all_taken, none_taken}
 use Rattle.plan_manager.proofs.clearing.remove_names.Goals as goal
 
 pub loop-number-init : goal.loop-number-init

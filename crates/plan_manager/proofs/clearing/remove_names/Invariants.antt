@@ -1,7 +1,7 @@
 use Rattle.std.proofs.Common.{Ok}
 use Rattle.lama_host.specs.declared.files.Failed.{Failed}
 use Rattle.lama_host.specs.Folder.{Keeps, Changes}
-use Rattle.plan_manager.proofs.Removing.{Taken}
+use Rattle.plan_manager.proofs.RemovedNames.{Taken}
 use Rattle.plan_manager.proofs.clearing.remove_names.Given as goal
 
 abbrev pub invariant-loop-number : goal.invariant-loop-number

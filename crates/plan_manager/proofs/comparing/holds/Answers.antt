@@ -3,7 +3,7 @@ use Rattle.std.specs.FinMap.{get}
 use Rattle.plan_manager.specs.Comparing.{HasAt, EndsAt}
 use Rattle.lama_host.proofs.StepLaws.{keeps_then, keeps_ok, keeps_none, untouched_then, told_again}
 use Rattle.plan_manager.specs.TextRests.{text_left}
-use Rattle.plan_manager.proofs.Drafting.{refilled, over_when_empty, both_empty}
+use Rattle.plan_manager.proofs.Drafts.{refilled, over_when_empty, both_empty}
 use Rattle.plan_manager.proofs.Fronts.{matched_none, matched_more, matched_not, matched_all, matched_ends, answer_as}
 use Rattle.plan_manager.proofs.Lines.{is_nothing}
 use Rattle.plan_manager.proofs.comparing.holds.Goals as goal

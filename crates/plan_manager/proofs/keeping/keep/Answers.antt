@@ -4,7 +4,7 @@ use Rattle.plan_text.specs.PlanText.{plan_text}
 use Rattle.plan_manager.specs.Family.{family_name}
 use Rattle.plan_manager.proofs.FamilyLaws.{family≢part}
 use Rattle.plan_manager.specs.Keeping.{plan_number}
-use Rattle.plan_manager.proofs.Placing.{places_as, apart}
+use Rattle.plan_manager.proofs.Renames.{places_as, apart}
 use Rattle.plan_manager.proofs.keeping.keep.Goals as goal
 
 low : (many : Bool) (number n : ℕ) → number ≤ 9999 → n ≡ plan_number many number → n ≤ 9999

@@ -2,7 +2,7 @@ use Rattle.std.proofs.Common.{◌∙◌, subst}
 use Rattle.lama_host.specs.Folder.{Changes}
 use Rattle.plan_manager.specs.Keeping.{Drafts}
 use Rattle.plan_manager.specs.TextRests.{text_left}
-use Rattle.plan_manager.proofs.Placing.{draft_failed, draft_renamed, draft_there}
+use Rattle.plan_manager.proofs.Renames.{draft_failed, draft_renamed, draft_there}
 use Rattle.plan_manager.proofs.keeping.place.Goals as goal
 
 pub new-text-requires : goal.new-text-requires

@@ -2,7 +2,7 @@ use Rattle.std.proofs.Common.{◌≡◌, ◌∙◌, sym, subst, []}
 use Rattle.lama_host.specs.Folder.{Changes, Appends}
 use Rattle.lama_host.proofs.StepLaws.{keeps_then, keeps_ok}
 use Rattle.plan_manager.specs.TextRests.{text_left}
-use Rattle.plan_manager.proofs.Drafting.{begins, begin_failed, piece_more, piece_failed, all_written, refilled, over_when_empty, both_empty}
+use Rattle.plan_manager.proofs.Drafts.{begins, begin_failed, piece_more, piece_failed, all_written, refilled, over_when_empty, both_empty}
 use Rattle.plan_manager.proofs.Lines.{is_nothing}
 use Rattle.plan_manager.proofs.keeping.write_draft.Goals as goal
 

@@ -2,7 +2,7 @@ use Rattle.std.proofs.Common.{◌≡◌, ◌+◌, ◌++◌, [], length, Ok}
 use Rattle.lama_host.specs.declared.files.Failed.{Failed}
 use Rattle.lama_host.specs.Folder.{Keeps, Changes}
 use Rattle.plan_manager.specs.TextRests.{text_left}
-use Rattle.plan_manager.proofs.Drafting.{Drafted}
+use Rattle.plan_manager.proofs.Drafts.{Drafted}
 use Rattle.plan_manager.proofs.keeping.write_draft.Given as goal
 
 abbrev pub invariant-loop-window : goal.invariant-loop-window

@@ -1,7 +1,7 @@
 use Rattle.std.proofs.Common.{◌∙◌}
 use Rattle.lama_num.specs.Names.{part_name}
 use Rattle.plan_text.specs.PlanText.{plan_text}
-use Rattle.plan_manager.proofs.Placing.{apart}
+use Rattle.plan_manager.proofs.Renames.{apart}
 use Rattle.plan_manager.proofs.Stages.{rewrites_as}
 use Rattle.plan_manager.proofs.sealing.rewrite_name.Goals as goal
 

@@ -1,5 +1,5 @@
 use Rattle.std.proofs.Common.{◌∙◌}
-use Rattle.plan_manager.proofs.Removing.{removed_as}
+use Rattle.plan_manager.proofs.RemovedNames.{removed_as}
 use Rattle.plan_manager.proofs.Stages.{sealed, sealing_failed}
 use Rattle.plan_manager.proofs.sealing.seal.Goals as goal
 

@@ -1,6 +1,6 @@
 use Rattle.std.proofs.lemmas.Slice.Eq.{strip_suffix_is}
 use Rattle.std.proofs.lemmas.Bool.Decides.{Decides-eqb}
-use Rattle.plan_text.proofs.Stripping.{stripped_end}
+use Rattle.plan_text.proofs.TextEnds.{stripped_end}
 use Rattle.plan_text.proofs.forms.before.Goals as goal
 
 pub returns : goal.returns

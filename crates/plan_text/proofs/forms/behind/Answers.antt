@@ -1,6 +1,6 @@
 use Rattle.std.proofs.lemmas.Slice.Eq.{strip_prefix_is}
 use Rattle.std.proofs.lemmas.Bool.Decides.{Decides-eqb}
-use Rattle.plan_text.proofs.Stripping.{stripped_front}
+use Rattle.plan_text.proofs.TextEnds.{stripped_front}
 use Rattle.plan_text.proofs.forms.behind.Goals as goal
 
 pub returns : goal.returns

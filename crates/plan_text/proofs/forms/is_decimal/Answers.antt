@@ -1,5 +1,5 @@
 use Rattle.std.proofs.Common.{◌≡◌, ◌∙◌, sym, refl, true, false, length}
-use Rattle.plan_text.proofs.Stripping.{is_decimal-digits}
+use Rattle.plan_text.proofs.TextEnds.{is_decimal-digits}
 use Rattle.plan_text.proofs.forms.is_decimal.Goals as goal
 
 pub returns : goal.returns

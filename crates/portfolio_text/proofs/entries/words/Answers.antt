@@ -1,6 +1,6 @@
 use Rattle.std.proofs.Common.{◌∙◌, ◌<◌, length, arith}
 use Rattle.std.proofs.lemmas.Bool.Decides.{nat_tests}
-use Rattle.portfolio_text.proofs.Wording.{reads_none, reads_more}
+use Rattle.portfolio_text.proofs.LineWords.{reads_none, reads_more}
 use Rattle.portfolio_text.proofs.entries.words.Goals as goal
 
 pub loop-rest-init : goal.loop-rest-init

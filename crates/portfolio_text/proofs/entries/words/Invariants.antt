@@ -1,6 +1,6 @@
 use Rattle.std.proofs.Common.{length}
 use Rattle.std.specs.Str.{IsUtf8}
-use Rattle.portfolio_text.proofs.Wording.{Reads}
+use Rattle.portfolio_text.proofs.LineWords.{Reads}
 use Rattle.portfolio_text.proofs.entries.words.Given as goal
 
 abbrev pub invariant-loop-rest : goal.invariant-loop-rest

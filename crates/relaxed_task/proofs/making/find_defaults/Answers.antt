@@ -1,6 +1,6 @@
 use Rattle.std.proofs.Common.{◌≡◌, ◌∙◌, ap, sym, subst, ℕ, List, ◌<◌, ◌+◌, slice_index, length}
 use Rattle.relaxed_task.specs.Making.{defaults_by}
-use Rattle.relaxed_task.proofs.Numbering.{defaults_small, defaults_same}
+use Rattle.relaxed_task.proofs.TaskNumbers.{defaults_small, defaults_same}
 use Rattle.relaxed_task.proofs.making.find_defaults.Goals as goal
 
 pub make_defaults-requires-clause-small : goal.make_defaults-requires-clause-small

@@ -1,7 +1,7 @@
 use Rattle.std.proofs.Common.{◌∙◌, ap, ◌++◌, []}
 use Rattle.relaxed_task.specs.Numbers.{distinct}
 use Rattle.relaxed_task.specs.Making.{all_numbers_by}
-use Rattle.relaxed_task.proofs.Numbering.{goals_numbered, goals_same}
+use Rattle.relaxed_task.proofs.TaskNumbers.{goals_numbered, goals_same}
 use Rattle.relaxed_task.proofs.making.find_goals.Goals as goal
 
 pub conditions-requires-clause-first : goal.conditions-requires-clause-first

@@ -1,6 +1,6 @@
 use Rattle.std.proofs.Common.{◌∙◌, ap, ◌++◌, map}
 use Rattle.relaxed_task.specs.Making.{rule_by}
-use Rattle.relaxed_task.proofs.Numbering.{operators_numbered, rules_numbered, unaries_same}
+use Rattle.relaxed_task.proofs.TaskNumbers.{operators_numbered, rules_numbered, unaries_same}
 use Rattle.relaxed_task.proofs.making.make_unaries.Goals as goal
 
 pub add_operators-requires-clause-operators : goal.add_operators-requires-clause-operators

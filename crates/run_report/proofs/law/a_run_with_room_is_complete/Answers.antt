@@ -1,4 +1,4 @@
-use Rattle.run_report.proofs.Completing.{complete}
+use Rattle.run_report.proofs.CompleteRuns.{complete}
 use Rattle.run_report.proofs.law.a_run_with_room_is_complete.Goals as goal
 
 pub returns : goal.returns

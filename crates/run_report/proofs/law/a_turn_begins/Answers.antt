@@ -1,4 +1,4 @@
-use Rattle.run_report.proofs.Going.{begins}
+use Rattle.run_report.proofs.TurnEvents.{begins}
 use Rattle.run_report.proofs.law.a_turn_begins.Goals as goal
 
 pub returns : goal.returns

@@ -1,4 +1,4 @@
-use Rattle.run_report.proofs.Going.{comes_to_end}
+use Rattle.run_report.proofs.TurnEvents.{comes_to_end}
 use Rattle.run_report.proofs.law.a_turn_ends.Goals as goal
 
 pub returns : goal.returns

@@ -1,4 +1,4 @@
-use Rattle.run_report.proofs.Going.{offers_more}
+use Rattle.run_report.proofs.TurnEvents.{offers_more}
 use Rattle.run_report.proofs.law.a_turn_offers.Goals as goal
 
 pub returns : goal.returns

@@ -1,4 +1,4 @@
-use Rattle.run_report.proofs.Phasing.{went_plan, went_space}
+use Rattle.run_report.proofs.PhaseSteps.{went_plan, went_space}
 use Rattle.run_report.proofs.law.one_more_phase.Goals as goal
 
 pub returns-clause-plan : goal.returns-clause-plan

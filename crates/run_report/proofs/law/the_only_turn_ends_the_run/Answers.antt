@@ -1,4 +1,4 @@
-use Rattle.run_report.proofs.Finishing.{over_once}
+use Rattle.run_report.proofs.EndedTurn.{over_once}
 use Rattle.run_report.proofs.law.the_only_turn_ends_the_run.Goals as goal
 
 pub returns : goal.returns

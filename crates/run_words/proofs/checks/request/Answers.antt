@@ -3,7 +3,7 @@ use Rattle.std.specs.Prelude.{is_some, nat_lt}
 use Rattle.run_words.specs.Accepted.{AreWithin}
 use Rattle.run_words.specs.Requests.{chosen, clashes, has_task, is_limitless, or_bad, values_of, works}
 use Rattle.run_words.specs.Seen.{seen}
-use Rattle.run_words.proofs.Requesting.{is_accepted, request_clashes, request_is}
+use Rattle.run_words.proofs.RequestLaws.{is_accepted, request_clashes, request_is}
 use Rattle.run_words.proofs.checks.request.Goals as goal
 
 pub returns-then-clashes-clause-exact : goal.returns-then-clashes-clause-exact

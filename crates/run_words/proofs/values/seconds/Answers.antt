@@ -1,7 +1,7 @@
 use Rattle.std.proofs.Common.{◌∙◌, ap, sym}
 use Rattle.std.specs.Prelude.{option_and_then}
 use Rattle.run_words.specs.Requests.{up_to}
-use Rattle.run_words.proofs.Requesting.{with_unit, without_unit}
+use Rattle.run_words.proofs.RequestLaws.{with_unit, without_unit}
 use Rattle.run_words.proofs.values.seconds.Goals as goal
 
 pub returns-in-Some-clause-same : goal.returns-in-Some-clause-same

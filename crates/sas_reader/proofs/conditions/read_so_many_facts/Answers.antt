@@ -1,6 +1,6 @@
 use Rattle.std.proofs.Common.{arith}
 use Rattle.sas_reader.specs.Formats.{FactIn}
-use Rattle.sas_reader.proofs.Walking.{lines_fail}
+use Rattle.sas_reader.proofs.FormatWalks.{lines_fail}
 use Rattle.sas_reader.proofs.conditions.read_so_many_facts.Goals as goal
 
 pub returns-in-Err : goal.returns-in-Err

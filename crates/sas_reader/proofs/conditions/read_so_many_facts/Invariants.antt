@@ -1,7 +1,7 @@
 use Rattle.std.proofs.Common.{◌≡◌, ◌-◌}
 use Rattle.sas_reader.specs.Formats.{FactIn, line, times}
 use Rattle.sas_reader.specs.Walks.{walk}
-use Rattle.sas_reader.proofs.Walking.{behind}
+use Rattle.sas_reader.proofs.FormatWalks.{behind}
 use Rattle.sas_reader.proofs.conditions.read_so_many_facts.Given as goal
 
 abbrev pub invariant-loop-i : goal.invariant-loop-i

@@ -1,6 +1,6 @@
 use Rattle.std.proofs.Common.{arith}
 use Rattle.sas_reader.specs.Formats.{Name}
-use Rattle.sas_reader.proofs.Walking.{lines_fail}
+use Rattle.sas_reader.proofs.FormatWalks.{lines_fail}
 use Rattle.sas_reader.proofs.variables.read_names.Goals as goal
 
 pub returns-in-Err-clause-names : goal.returns-in-Err-clause-names

@@ -1,7 +1,7 @@
 use Rattle.std.proofs.Common.{◌≡◌, ◌-◌, length}
 use Rattle.sas_reader.specs.Formats.{Name, line, times}
 use Rattle.sas_reader.specs.Walks.{walk}
-use Rattle.sas_reader.proofs.Walking.{behind}
+use Rattle.sas_reader.proofs.FormatWalks.{behind}
 use Rattle.sas_reader.proofs.variables.read_names.Given as goal
 
 abbrev pub invariant-loop-i : goal.invariant-loop-i

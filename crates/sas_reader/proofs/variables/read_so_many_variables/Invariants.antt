@@ -2,7 +2,7 @@ use Rattle.std.proofs.Common.{◌≡◌, ◌≤◌, ◌-◌}
 use Rattle.sas_task.specs.Limits.{most_facts}
 use Rattle.sas_reader.specs.TaskText.{variables_from}
 use Rattle.sas_reader.specs.Walks.{walk}
-use Rattle.sas_reader.proofs.Walking.{behind}
+use Rattle.sas_reader.proofs.FormatWalks.{behind}
 use Rattle.sas_reader.proofs.variables.read_so_many_variables.Given as goal
 
 abbrev pub invariant-loop-i : goal.invariant-loop-i

@@ -2,7 +2,7 @@ use Rattle.std.proofs.Common.{◌≡◌, drop}
 use Rattle.sas_reader.specs.Formats.{each}
 use Rattle.sas_reader.specs.TaskText.{initial}
 use Rattle.sas_reader.specs.Walks.{walk}
-use Rattle.sas_reader.proofs.Walking.{behind}
+use Rattle.sas_reader.proofs.FormatWalks.{behind}
 use Rattle.sas_reader.proofs.variables.read_values.Given as goal
 
 abbrev pub invariant-loop-variable : goal.invariant-loop-variable

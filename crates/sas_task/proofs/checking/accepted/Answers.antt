@@ -1,5 +1,5 @@
 use Rattle.std.proofs.Common.{rules}
-use Rattle.sas_task.proofs.Forming.{accepted_forms}
+use Rattle.sas_task.proofs.MadeWellFormed.{accepted_forms}
 use Rattle.sas_task.proofs.checking.accepted.Goals as goal
 
 pub new-requires : goal.new-requires

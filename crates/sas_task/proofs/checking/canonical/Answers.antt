@@ -1,5 +1,5 @@
 use Rattle.std.proofs.Common.{rules}
-use Rattle.sas_task.proofs.Answering.{no_conditions, brought_by}
+use Rattle.sas_task.proofs.CauseLaws.{no_conditions, brought_by}
 use Rattle.sas_task.proofs.checking.canonical.Goals as goal
 
 pub returns : goal.returns

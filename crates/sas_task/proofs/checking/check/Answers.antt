@@ -1,8 +1,8 @@
 use Rattle.std.proofs.Common.{◌∙◌, refl, sym, ap, subst, Ok}
 use Rattle.std.proofs.lemmas.Result.{err_from_is_err_and}
 use Rattle.sas_task.specs.WellFormed.{IsWellFormed}
-use Rattle.sas_task.proofs.Answering.{unless-ok, unless-err, unless-value, refused_first, refused_conditions, refused_last}
-use Rattle.sas_task.proofs.Forming.{brought_forms}
+use Rattle.sas_task.proofs.CauseLaws.{unless-ok, unless-err, unless-value, refused_first, refused_conditions, refused_last}
+use Rattle.sas_task.proofs.MadeWellFormed.{brought_forms}
 use Rattle.sas_task.proofs.checking.check.Goals as goal
 
 pub returns-in_err-refuse_sizes_before_effects : goal.returns-in_err-refuse_sizes_before_effects

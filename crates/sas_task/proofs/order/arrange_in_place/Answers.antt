@@ -1,5 +1,5 @@
 use Rattle.std.proofs.Common.{sym, ◌∙◌}
-use Rattle.sas_task.proofs.Moving.{arranges_none, arranges_stay, arranges_move}
+use Rattle.sas_task.proofs.MovedPreconditions.{arranges_none, arranges_stay, arranges_move}
 use Rattle.sas_task.proofs.order.arrange_in_place.Goals as goal
 use Rattle.sas_task.proofs.order.arrange_in_place.Goals.{in-Some, in_default}
 

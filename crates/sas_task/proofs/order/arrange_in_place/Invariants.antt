@@ -1,5 +1,5 @@
 use Rattle.std.proofs.Common.{take}
-use Rattle.sas_task.proofs.Moving.{Arranges}
+use Rattle.sas_task.proofs.MovedPreconditions.{Arranges}
 use Rattle.sas_task.proofs.order.arrange_in_place.Given as goal
 
 abbrev pub invariant-loop-effect : goal.invariant-loop-effect

@@ -1,4 +1,4 @@
-use Rattle.sas_task.proofs.Moving.{rotated}
+use Rattle.sas_task.proofs.MovedPreconditions.{rotated}
 use Rattle.sas_task.proofs.order.move_to_end.Goals as goal
 
 pub returns : goal.returns

@@ -1,5 +1,5 @@
 use Rattle.state_registry.specs.Interning.{IsAbsent}
-use Rattle.state_registry.proofs.Interning.{adds_new, adds_known, absent_from, on_err}
+use Rattle.state_registry.proofs.StateLookUps.{adds_new, adds_known, absent_from, on_err}
 use Rattle.state_registry.proofs.rows.add.Goals as goal
 
 pub returns-then-new-clause-ok : goal.returns-then-new-clause-ok

@@ -1,7 +1,7 @@
 use Rattle.std.proofs.Common.{◌∙◌, ◌<◌, sym, length, map, arith}
 use Rattle.axiom_eval.proofs.Written.{written_none, written_fires, written_still}
 use Rattle.state_step.specs.Tables.{effect_of}
-use Rattle.state_step.proofs.Looking.{effect_at, conds_within_at, fact_within_at, mapped_long}
+use Rattle.state_step.proofs.OperatorTables.{effect_at, conds_within_at, fact_within_at, mapped_long}
 use Rattle.state_step.proofs.effects.write_changes.Goals as goal
 use Rattle.state_step.proofs.effects.write_changes.Goals.{then-fires, else-fires}
 

@@ -1,4 +1,4 @@
-use Rattle.succ_gen.proofs.Sorting.{conditions_more, sorted_facts}
+use Rattle.succ_gen.proofs.SortedConditions.{conditions_more, sorted_facts}
 use Rattle.succ_gen.proofs.conditions.conditions_of.Goals as goal
 
 pub loop-operator-preserved : goal.loop-operator-preserved

@@ -1,4 +1,4 @@
-use Rattle.succ_gen.proofs.Laying.{AreSiblings}
+use Rattle.succ_gen.proofs.NodeLayout.{AreSiblings}
 use Rattle.succ_gen.proofs.nodes.group_end.Given as goal
 
 abbrev pub invariant-loop-next : goal.invariant-loop-next

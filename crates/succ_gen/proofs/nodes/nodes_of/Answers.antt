@@ -1,5 +1,5 @@
 use Rattle.std.proofs.Common.{refl}
-use Rattle.succ_gen.proofs.Laying.{nodes_more}
+use Rattle.succ_gen.proofs.NodeLayout.{nodes_more}
 use Rattle.succ_gen.proofs.nodes.nodes_of.Goals as goal
 
 pub loop-number-preserved : goal.loop-number-preserved

@@ -1,4 +1,4 @@
-use Rattle.succ_gen.proofs.Laying.{AreNodesTo}
+use Rattle.succ_gen.proofs.NodeLayout.{AreNodesTo}
 use Rattle.succ_gen.proofs.nodes.nodes_of.Given as goal
 
 abbrev pub invariant-loop-number : goal.invariant-loop-number

@@ -1,6 +1,6 @@
 use Rattle.std.proofs.lemmas.Option.{slice_get-get_or}
 use Rattle.succ_gen.specs.Growing.{parent_of}
-use Rattle.succ_gen.proofs.Laying.{below_more, cut_at, cut_length}
+use Rattle.succ_gen.proofs.NodeLayout.{below_more, cut_at, cut_length}
 use Rattle.succ_gen.proofs.nodes.skip_branches.Goals as goal
 
 pub returns-then-branches-place : goal.returns-then-branches-place

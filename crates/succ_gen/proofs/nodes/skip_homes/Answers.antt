@@ -1,6 +1,6 @@
 use Rattle.std.proofs.lemmas.Option.{slice_get-get_or}
 use Rattle.succ_gen.specs.Growing.{node_of}
-use Rattle.succ_gen.proofs.Laying.{below_more, cut_at, cut_length}
+use Rattle.succ_gen.proofs.NodeLayout.{below_more, cut_at, cut_length}
 use Rattle.succ_gen.proofs.nodes.skip_homes.Goals as goal
 
 pub returns-then-homes-place : goal.returns-then-homes-place

@@ -1,6 +1,6 @@
 use Rattle.std.proofs.Common.{◌≡◌, ◌+◌, ◌-◌, ◌<◌, ℕ, arith}
 use Rattle.succ_gen.specs.Trees.{node_at}
-use Rattle.succ_gen.proofs.Reaching.{none_below, sought_nearer}
+use Rattle.succ_gen.proofs.TreeWalk.{none_below, sought_nearer}
 use Rattle.succ_gen.proofs.walking.find.Goals.{else-farthest-end-via-then-farthest-end+else-nodes-farthest, else-farthest-end-via-else-farthest-end}
 use Rattle.succ_gen.proofs.walking.find.Goals as goal
 

@@ -1,6 +1,6 @@
 use Rattle.std.proofs.Common.{◌∙◌, ◌+◌, arith}
 use Rattle.succ_gen.specs.Trees.{IsChild}
-use Rattle.succ_gen.proofs.Reaching.{reached_more}
+use Rattle.succ_gen.proofs.TreeWalk.{reached_more}
 use Rattle.succ_gen.proofs.walking.reach_children.Goals as goal
 
 pub loop-group-preserved : goal.loop-group-preserved

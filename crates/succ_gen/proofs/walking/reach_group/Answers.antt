@@ -1,5 +1,5 @@
 use Rattle.std.proofs.Common.{◌∙◌, ◌++◌, sym, ap, refl, append-nil, Some, None}
-use Rattle.succ_gen.proofs.Reaching.{group_rises, group_opened}
+use Rattle.succ_gen.proofs.TreeWalk.{group_rises, group_opened}
 use Rattle.succ_gen.proofs.walking.reach_group.Goals as goal
 
 pub find-requires-clause-rises : goal.find-requires-clause-rises

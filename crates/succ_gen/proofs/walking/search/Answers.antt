@@ -1,6 +1,6 @@
 use Rattle.std.proofs.Common.{◌+◌, ◌-◌, ◌/◌, ◌<◌, ℕ, arith}
 use Rattle.succ_gen.specs.Trees.{node_at}
-use Rattle.succ_gen.proofs.Reaching.{searched_left, searched_right}
+use Rattle.succ_gen.proofs.TreeWalk.{searched_left, searched_right}
 use Rattle.succ_gen.proofs.walking.search.Goals as goal
 
 pub loop-start-preserved-then-here-value-2 : goal.loop-start-preserved-then-here-value-2

@@ -1,5 +1,5 @@
 use Rattle.std.proofs.Common.{◌-◌}
-use Rattle.succ_gen.proofs.Reaching.{IsSearched}
+use Rattle.succ_gen.proofs.TreeWalk.{IsSearched}
 use Rattle.succ_gen.proofs.walking.search.Given as goal
 
 abbrev pub invariant-loop-start : goal.invariant-loop-start

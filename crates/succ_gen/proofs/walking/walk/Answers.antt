@@ -1,7 +1,7 @@
 use Rattle.std.proofs.Common.{◌≡◌, ◌∙◌, ◌++◌, ◌∷◌, [], ◌+◌, ◌<◌, ◌≤◌, ap, length, slice_index, arith}
 use Rattle.std.proofs.lemmas.List.{get_or_read}
 use Rattle.succ_gen.specs.Trees.{node_at}
-use Rattle.succ_gen.proofs.Reaching.{walking_start, walking_more, walking_all}
+use Rattle.succ_gen.proofs.TreeWalk.{walking_start, walking_more, walking_all}
 use Rattle.succ_gen.proofs.walking.walk.Goals as goal
 
 pub loop-place-init : goal.loop-place-init

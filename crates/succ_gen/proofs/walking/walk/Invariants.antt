@@ -1,5 +1,5 @@
 use Rattle.std.proofs.Common.{◌≡◌, ◌-◌, length, vec_capacity}
-use Rattle.succ_gen.proofs.Reaching.{IsWalking}
+use Rattle.succ_gen.proofs.TreeWalk.{IsWalking}
 use Rattle.succ_gen.proofs.walking.walk.Given as goal
 
 abbrev pub invariant-loop-place : goal.invariant-loop-place

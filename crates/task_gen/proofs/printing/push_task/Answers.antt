@@ -3,7 +3,7 @@ use Rattle.std.specs.Prelude.{slice_get}
 use Rattle.text_lines.specs.Texts.{text_of}
 use Rattle.task_gen.specs.Printed.{counted, version_lines, metric_lines, variable_lines, group_lines, state_lines, goal_lines, operator_lines, rule_lines, task_lines}
 use Rattle.task_gen.specs.Waiting.{CanWait}
-use Rattle.task_gen.proofs.Fitting.{can_wait, has_default}
+use Rattle.task_gen.proofs.FittingParts.{can_wait, has_default}
 use Rattle.task_gen.proofs.Grown.{printed_then, on_ok}
 use Rattle.task_gen.proofs.printing.push_task.Goals as goal
 

@@ -1,6 +1,6 @@
 use Rattle.std.proofs.Common.{rules, arith}
 use Rattle.cost_queue.specs.OneMeaning.{stands_for}
-use Rattle.cost_queue.proofs.Keeping.{none_waiting}
+use Rattle.cost_queue.proofs.QueueLaws.{none_waiting}
 use Rattle.cost_queue.proofs.queue.CostQueue.new.Goals as goal
 
 pub invariant_of-result : goal.invariant_of-result

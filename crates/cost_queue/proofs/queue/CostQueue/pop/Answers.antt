@@ -1,6 +1,6 @@
 use Rattle.std.proofs.Common.{arith}
 use Rattle.cost_queue.specs.OneMeaning.{stands_for}
-use Rattle.cost_queue.proofs.Keeping.{all_high, first_within, taken_low, popped_low}
+use Rattle.cost_queue.proofs.QueueLaws.{all_high, first_within, taken_low, popped_low}
 use Rattle.cost_queue.proofs.queue.CostQueue.pop.Goals as goal
 
 pub pop_high-requires : goal.pop_high-requires

@@ -1,5 +1,5 @@
 use Rattle.cost_queue.specs.OneMeaning.{stands_for}
-use Rattle.cost_queue.proofs.Keeping.{popped, taken_high, none_left}
+use Rattle.cost_queue.proofs.QueueLaws.{popped, taken_high, none_left}
 use Rattle.cost_queue.proofs.queue.CostQueue.pop_high.Goals as goal
 
 pub invariant_of-self-inside : goal.invariant_of-self-inside

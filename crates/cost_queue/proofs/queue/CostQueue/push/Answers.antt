@@ -1,5 +1,5 @@
 use Rattle.cost_queue.specs.OneMeaning.{stands_for}
-use Rattle.cost_queue.proofs.Keeping.{pushed_low}
+use Rattle.cost_queue.proofs.QueueLaws.{pushed_low}
 use Rattle.cost_queue.proofs.queue.CostQueue.push.Goals as goal
 
 pub invariant_of-self-inside : goal.invariant_of-self-inside

@@ -1,5 +1,5 @@
 use Rattle.cost_queue.specs.OneMeaning.{stands_for}
-use Rattle.cost_queue.proofs.Keeping.{has_room, pushed_high}
+use Rattle.cost_queue.proofs.QueueLaws.{has_room, pushed_high}
 use Rattle.cost_queue.proofs.queue.CostQueue.push_high.Goals as goal
 
 pub invariant_of-self-inside : goal.invariant_of-self-inside

@@ -1,7 +1,7 @@
 use Rattle.std.proofs.Common.{◌∙◌, ap, sym}
 use Rattle.lama_num.specs.Bounds.{is_below}
 use Rattle.driver_core.specs.States.{CoreState}
-use Rattle.driver_core.proofs.Stopping.{kept_where_below}
+use Rattle.driver_core.proofs.OverLaws.{kept_where_below}
 use Rattle.driver_core.proofs.driver.Core.bound.Goals as goal
 
 pub returns-clause-keeps : goal.returns-clause-keeps

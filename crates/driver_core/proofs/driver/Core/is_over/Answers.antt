@@ -1,6 +1,6 @@
 use Rattle.std.proofs.Common.{◌∙◌, sym}
 use Rattle.driver_core.proofs.Steps.{is_done-holds}
-use Rattle.driver_core.proofs.Stopping.{goes_on, room_left}
+use Rattle.driver_core.proofs.OverLaws.{goes_on, room_left}
 use Rattle.driver_core.proofs.driver.Core.is_over.Goals as goal
 
 pub returns-clause-over : goal.returns-clause-over

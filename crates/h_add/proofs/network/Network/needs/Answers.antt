@@ -1,4 +1,4 @@
-use Rattle.h_add.proofs.Growing.{row_within}
+use Rattle.h_add.proofs.ListGrowth.{row_within}
 use Rattle.h_add.proofs.network.Network.needs.Goals as goal
 
 pub returns-clause-within : goal.returns-clause-within

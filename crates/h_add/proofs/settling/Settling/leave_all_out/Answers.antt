@@ -3,7 +3,7 @@ use Rattle.std.proofs.lemmas.List.{get_or-map, length-map, take_all}
 use Rattle.relaxed_task.specs.Numbers.{number_by, is_among}
 use Rattle.relaxed_task.proofs.NumberLaws.{numbers_same, numbers_below}
 use Rattle.h_add.specs.Networks.{are_below}
-use Rattle.h_add.proofs.Growing.{below_at}
+use Rattle.h_add.proofs.ListGrowth.{below_at}
 use Rattle.h_add.proofs.Steps.{out_more}
 use Rattle.h_add.proofs.settling.Settling.leave_all_out.Goals as goal
 

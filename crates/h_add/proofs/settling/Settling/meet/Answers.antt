@@ -1,7 +1,7 @@
 use Rattle.std.proofs.Common.{◌∙◌, ap, arith}
 use Rattle.cost_queue.specs.Queues.{price_of}
 use Rattle.h_add.specs.UnderWay.{Settlement}
-use Rattle.h_add.proofs.Counting.{met_all, met_some, counts_some, counts_idle}
+use Rattle.h_add.proofs.ReachedSums.{met_all, met_some, counts_some, counts_idle}
 use Rattle.h_add.proofs.settling.Settling.meet.Goals as goal
 
 pub count-requires-clause-some : goal.count-requires-clause-some

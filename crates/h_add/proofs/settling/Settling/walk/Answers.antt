@@ -1,5 +1,5 @@
 use Rattle.std.proofs.Common.{◌<◌, length, refl, arith}
-use Rattle.h_add.proofs.Counting.{one_met, counted_more}
+use Rattle.h_add.proofs.ReachedSums.{one_met, counted_more}
 use Rattle.h_add.proofs.settling.Settling.walk.Goals as goal
 
 pub loop-place-preserved : goal.loop-place-preserved

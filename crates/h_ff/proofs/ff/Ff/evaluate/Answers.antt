@@ -1,4 +1,4 @@
-use Rattle.h_ff.proofs.Planning.{has_plan}
+use Rattle.h_ff.proofs.RelaxedPlanLaws.{has_plan}
 use Rattle.h_ff.proofs.ff.Ff.evaluate.Goals as goal
 
 pub returns-clause-answer : goal.returns-clause-answer

@@ -4,7 +4,7 @@ use Rattle.lama_host.specs.Folder.{growth, bytes_at}
 use Rattle.host_mem.specs.Journal.{first_held, holds}
 use Rattle.host_mem.specs.declared.calls.HostCall.TheVariants.{Append}
 use Rattle.host_mem.specs.declared.journal.Change.TheVariants.{Grew}
-use Rattle.host_mem.proofs.Telling.{logged_keeps, effect_asked, changes_append, grew_last, all_grew, half_grew}
+use Rattle.host_mem.proofs.JournalSteps.{logged_keeps, effect_asked, changes_append, grew_last, all_grew, half_grew}
 use Rattle.host_mem.proofs.host.MemHostFolder.append.Goals as goal
 
 pub returns-clause-keeps : goal.returns-clause-keeps

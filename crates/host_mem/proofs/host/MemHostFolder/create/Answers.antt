@@ -4,7 +4,7 @@ use Rattle.host_mem.specs.Calls.{fault_of, called}
 use Rattle.host_mem.specs.Journal.{first_held}
 use Rattle.host_mem.specs.declared.calls.HostCall.TheVariants.{Create}
 use Rattle.host_mem.specs.declared.journal.Change.TheVariants.{Made}
-use Rattle.host_mem.proofs.Telling.{logged_keeps, effect_asked, changes_once}
+use Rattle.host_mem.proofs.JournalSteps.{logged_keeps, effect_asked, changes_once}
 use Rattle.host_mem.proofs.host.MemHostFolder.create.Goals as goal
 
 pub returns-clause-keeps : goal.returns-clause-keeps

@@ -5,7 +5,7 @@ use Rattle.lama_host.specs.Folder.{renamed, bytes_at}
 use Rattle.host_mem.specs.Journal.{first_held, holds}
 use Rattle.host_mem.specs.declared.calls.HostCall.TheVariants.{Rename}
 use Rattle.host_mem.specs.declared.journal.Change.TheVariants.{Moved}
-use Rattle.host_mem.proofs.Telling.{logged_keeps, effect_asked, changes_once, moved_is}
+use Rattle.host_mem.proofs.JournalSteps.{logged_keeps, effect_asked, changes_once, moved_is}
 use Rattle.host_mem.proofs.host.MemHostFolder.rename.Goals as goal
 
 pub returns-clause-keeps : goal.returns-clause-keeps

@@ -4,7 +4,7 @@ use Rattle.host_mem.specs.Journal.{first_held, writing}
 use Rattle.host_mem.specs.Outcomes.{answer_unless, Logged}
 use Rattle.host_mem.specs.declared.calls.HostCall.TheVariants.{Wait}
 use Rattle.host_mem.specs.declared.journal.Change.TheVariants.{Ended}
-use Rattle.host_mem.proofs.Telling.{effect_asked, last_of-writing}
+use Rattle.host_mem.proofs.JournalSteps.{effect_asked, last_of-writing}
 use Rattle.host_mem.proofs.Slots.{waited, wait_told, wait_leaves, answered_by, failed_by}
 use Rattle.host_mem.proofs.host.MemHostHost.wait.Goals as goal
 use Rattle.host_mem.proofs.host.MemHostHost.wait.Goals.{After-answer}

@@ -1,4 +1,4 @@
-use Rattle.host_real.proofs.Starting.{starts_untold, on_ok, on_err}
+use Rattle.host_real.proofs.StartLaws.{starts_untold, on_ok, on_err}
 use Rattle.host_real.proofs.host.RealHostHost.start.Goals as goal
 
 pub returns : goal.returns

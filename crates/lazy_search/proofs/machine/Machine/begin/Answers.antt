@@ -18,8 +18,8 @@ use Rattle.lazy_search.specs.Outcomes.{turned_by}
 use Rattle.lazy_search.specs.Visits.{row_for, Grows}
 use Rattle.lazy_search.specs.Machines.{AfterTurn}
 use Rattle.lazy_search.specs.Phases.{phase_of}
-use Rattle.lazy_search.proofs.Visiting.{Noted}
-use Rattle.lazy_search.proofs.Beginning.{first_words, arrival_first, visit_first, rests_first, guided_first, first_ends, counters_first, not_empty_first}
+use Rattle.lazy_search.proofs.VisitLaws.{Noted}
+use Rattle.lazy_search.proofs.FirstVisit.{first_words, arrival_first, visit_first, rests_first, guided_first, first_ends, counters_first, not_empty_first}
 use Rattle.lazy_search.proofs.machine.Machine.begin.Goals as goal
 
 pub intern-requires-clause-state : goal.intern-requires-clause-state

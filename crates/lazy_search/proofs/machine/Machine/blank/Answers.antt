@@ -2,7 +2,7 @@ use Rattle.std.proofs.Common.{◌≡◌, map, length, refl, ap, ◌∙◌, arith
 use Rattle.std.specs.List.{range_with_len}
 use Rattle.std.proofs.lemmas.List.FromFn.{length-map-range_with_len}
 use Rattle.lazy_search.specs.Shapes.{lists_by, is_preferred_by}
-use Rattle.lazy_search.proofs.Beginning.{sorts_first, few_sorts}
+use Rattle.lazy_search.proofs.FirstVisit.{sorts_first, few_sorts}
 use Rattle.lazy_search.proofs.machine.Machine.blank.Goals as goal
 
 pub new-requires : goal.new-requires

@@ -2,7 +2,7 @@ use Rattle.std.proofs.Common.{◌≡◌, ℕ, Bool, false, not, List, refl, ap, 
 use Rattle.std.specs.Prelude.{◌&&◌}
 use Rattle.lazy_search.specs.Entries.{Expands}
 use Rattle.lazy_search.specs.Visits.{Grows}
-use Rattle.lazy_search.proofs.Keeping.{on_ok, numbered_row, keeps_visit, opened}
+use Rattle.lazy_search.proofs.KeptVisits.{on_ok, numbered_row, keeps_visit, opened}
 use Rattle.lama_num.proofs.BoolLaws.{and-false}
 use Rattle.lazy_search.proofs.machine.Machine.keep_visit.Goals as goal
 use Rattle.lazy_search.proofs.machine.Machine.keep_visit.Goals.{then-self-via-then-self, then-self-via-else-self+then-arrival}

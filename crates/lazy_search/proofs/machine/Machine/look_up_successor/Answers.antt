@@ -2,9 +2,9 @@ use Rattle.std.proofs.Common.{sym, ◌∙◌, subst, arith}
 use Rattle.sas_task.specs.States.{IsState}
 use Rattle.lazy_search.specs.Machines.{past_in}
 use Rattle.lazy_search.specs.Phases.{phase_of}
-use Rattle.lazy_search.proofs.Reaching.{sound_of}
-use Rattle.lazy_search.proofs.Arriving.{looked, decided_over, decided_new, decided_full, decided_known, decided_again, known_within}
-use Rattle.lazy_search.proofs.Deciding.{opens, next_is, to_state}
+use Rattle.lazy_search.proofs.TakenEntries.{sound_of}
+use Rattle.lazy_search.proofs.Decisions.{looked, decided_over, decided_new, decided_full, decided_known, decided_again, known_within}
+use Rattle.lazy_search.proofs.LookUps.{opens, next_is, to_state}
 use Rattle.lazy_search.proofs.machine.Machine.look_up_successor.Goals as goal
 
 pub returns-then-not-is_below-clause-arrives : goal.returns-then-not-is_below-clause-arrives

@@ -3,7 +3,7 @@ use Rattle.search_log.specs.Pending.{pending}
 use Rattle.lazy_search.specs.declared.rows.LatestVisit.{LatestVisit}
 use Rattle.lazy_search.specs.Machines.{past_in}
 use Rattle.lazy_search.specs.Phases.{phase_of}
-use Rattle.lazy_search.proofs.Reaching.{sound_of, numbers_of, entry_goes, counters_high, visit_within, parent_read, row_within, row_read, costs_small, nothing_held, reaches}
+use Rattle.lazy_search.proofs.TakenEntries.{sound_of, numbers_of, entry_goes, counters_high, visit_within, parent_read, row_within, row_read, costs_small, nothing_held, reaches}
 use Rattle.lazy_search.proofs.machine.Machine.pop_entry.Goals as goal
 
 pub pop-requires : goal.pop-requires

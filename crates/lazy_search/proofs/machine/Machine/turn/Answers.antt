@@ -7,7 +7,7 @@ use Rattle.lazy_search.specs.declared.machine.Machine.{Machine}
 use Rattle.lazy_search.specs.Outcomes.{PopsMore}
 use Rattle.lazy_search.specs.Machines.{past_in, Reaches, Arrives, ArrivesAt}
 use Rattle.lazy_search.specs.Phases.{phase_of}
-use Rattle.lazy_search.proofs.Taking.{rests_told, on_told, guided_told, after_empty, after_known, after_full, pops_one, list_small}
+use Rattle.lazy_search.proofs.NextPops.{rests_told, on_told, guided_told, after_empty, after_known, after_full, pops_one, list_small}
 use Rattle.lazy_search.proofs.machine.Machine.turn.Goals as goal
 
 pub pop_entry-requires-clause-rests : goal.pop_entry-requires-clause-rests

@@ -5,8 +5,8 @@ use Rattle.open_lists.specs.declared.entry.Popped.{Popped}
 use Rattle.search_log.specs.declared.turns.PopResult.TheVariants.{Known, Dead, Goal, Visited, Again}
 use Rattle.search_log.proofs.TurnLaws.{past_with}
 use Rattle.search_log.proofs.LogLaws.{Numbers}
-use Rattle.lazy_search.proofs.Deciding.{to_state, rows_count}
-use Rattle.lazy_search.proofs.Taking.{lists_popped, list_small}
+use Rattle.lazy_search.proofs.LookUps.{to_state, rows_count}
+use Rattle.lazy_search.proofs.NextPops.{lists_popped, list_small}
 use Rattle.std.specs.declared.alloc.Global.{Global}
 use Rattle.sas_task.specs.Runs.{is_goal}
 use Rattle.sas_task.specs.States.{IsState}
@@ -21,8 +21,8 @@ use Rattle.lazy_search.specs.Outcomes.{pop_by, outcome_of, turned_by, PopsMore}
 use Rattle.lazy_search.specs.Visits.{row_for, Grows}
 use Rattle.lazy_search.specs.Machines.{past_in, place_there, AfterTurn}
 use Rattle.lazy_search.specs.Phases.{phase_of}
-use Rattle.lazy_search.proofs.Reaching.{sound_of, numbers_of}
-use Rattle.lazy_search.proofs.Visiting.{Noted, arrival_of, visit_of, pop_of, past_made, rests_visited, guided_visited, turn_ends, counters_low}
+use Rattle.lazy_search.proofs.TakenEntries.{sound_of, numbers_of}
+use Rattle.lazy_search.proofs.VisitLaws.{Noted, arrival_of, visit_of, pop_of, past_made, rests_visited, guided_visited, turn_ends, counters_low}
 use Rattle.lazy_search.proofs.machine.Machine.visit.Goals as goal
 
 pub returns-clause-after : goal.returns-clause-after

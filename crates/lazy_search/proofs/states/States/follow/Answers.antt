@@ -1,7 +1,7 @@
 use Rattle.std.proofs.Common.{◌≡◌, ℕ, List, Some, true, length, ap, sym, ◌∙◌, subst}
 use Rattle.std.proofs.lemmas.List.{with_items_is}
 use Rattle.sas_task.specs.States.{is_applicable, step}
-use Rattle.lazy_search.proofs.Unpacking.{written_whole, unpacked}
+use Rattle.lazy_search.proofs.UnpackedStates.{written_whole, unpacked}
 use Rattle.lazy_search.proofs.states.States.follow.Goals as goal
 
 pub apply_into-requires-clause-applicable : goal.apply_into-requires-clause-applicable

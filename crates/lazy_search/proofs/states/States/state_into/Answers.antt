@@ -1,6 +1,6 @@
 use Rattle.std.proofs.Common.{ap, sym, ◌∙◌}
 use Rattle.packed_state.specs.Packing.{Places}
-use Rattle.lazy_search.proofs.Unpacking.{words_long, unpacked}
+use Rattle.lazy_search.proofs.UnpackedStates.{words_long, unpacked}
 use Rattle.lazy_search.proofs.states.States.state_into.Goals as goal
 
 pub unpack-requires-clause-words : goal.unpack-requires-clause-words

@@ -1,5 +1,5 @@
-use Rattle.lm_backchain.proofs.Giving.{givers_none, givers_more}
-use Rattle.lm_backchain.proofs.Listing.{read_at}
+use Rattle.lm_backchain.proofs.GivingOperators.{givers_none, givers_more}
+use Rattle.lm_backchain.proofs.ListLaws.{read_at}
 use Rattle.lm_backchain.proofs.givers.Givers.of.Goals as goal
 
 pub loop-fact-init : goal.loop-fact-init

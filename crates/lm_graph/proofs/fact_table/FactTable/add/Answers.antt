@@ -1,6 +1,6 @@
 use Rattle.std.proofs.Common.{refl, get_or}
 use Rattle.sas_task.specs.declared.contents.Fact.{Fact}
-use Rattle.lm_graph.proofs.Numbering.{adds_none, adds_more}
+use Rattle.lm_graph.proofs.NumbersOfFacts.{adds_none, adds_more}
 use Rattle.lm_graph.proofs.fact_table.FactTable.add.Goals as goal
 
 pub loop-fact-init : goal.loop-fact-init

@@ -1,6 +1,6 @@
 use Rattle.std.proofs.Common.{◌≡◌, ◌∙◌, ap, ℕ, List, [], ◌∷◌, ◌++◌, Option, rules, unwrap_or}
 use Rattle.lm_graph.specs.FactTables.{numbers_at}
-use Rattle.lm_graph.proofs.Numbering.{puts_from}
+use Rattle.lm_graph.proofs.NumbersOfFacts.{puts_from}
 use Rattle.lm_graph.proofs.fact_table.FactTable.put.Goals as goal
 
 pub returns-in-Some : goal.returns-in-Some

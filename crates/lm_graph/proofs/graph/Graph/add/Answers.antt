@@ -1,5 +1,5 @@
 use Rattle.lm_graph.proofs.Contents.{goal_graph, sets_of-with_goal}
-use Rattle.lm_graph.proofs.Looking.{same_keys}
+use Rattle.lm_graph.proofs.FactLookUps.{same_keys}
 use Rattle.lm_graph.proofs.graph.Graph.add.Goals as goal
 
 pub invariant_of-self : goal.invariant_of-self

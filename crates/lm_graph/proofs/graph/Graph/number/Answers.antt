@@ -1,5 +1,5 @@
 use Rattle.std.proofs.Common.{sym, ap, ◌∙◌, is_some}
-use Rattle.lm_graph.proofs.Looking.{found, absent}
+use Rattle.lm_graph.proofs.FactLookUps.{found, absent}
 use Rattle.lm_graph.proofs.graph.Graph.number.Goals as goal
 
 pub returns-in-Some-clause-found : goal.returns-in-Some-clause-found

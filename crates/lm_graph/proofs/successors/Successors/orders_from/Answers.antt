@@ -2,7 +2,7 @@ use Rattle.std.proofs.Common.{◌≡◌, ◌∙◌, sym, ap, subst, Some, List, 
 use Rattle.lm_graph.specs.declared.orders.Edge.{Edge}
 use Rattle.lm_graph.specs.Rows.{kind_in}
 use Rattle.lm_graph.specs.Turned.{kinds_from}
-use Rattle.lm_graph.proofs.Marking.{row_within}
+use Rattle.lm_graph.proofs.MarkLaws.{row_within}
 use Rattle.lm_graph.proofs.Strengths.{kind_at_place}
 use Rattle.lm_graph.proofs.successors.Successors.orders_from.Goals as goal
 

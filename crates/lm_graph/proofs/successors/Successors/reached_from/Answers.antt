@@ -1,6 +1,6 @@
 use Rattle.lm_graph.specs.Marks.{kinds_in}
 use Rattle.lm_graph.specs.Turned.{kinds_from}
-use Rattle.lm_graph.proofs.Turning.{path_turned}
+use Rattle.lm_graph.proofs.TurnedRows.{path_turned}
 use Rattle.lm_graph.proofs.successors.Successors.reached_from.Goals as goal
 
 pub returns-clause-reached : goal.returns-clause-reached

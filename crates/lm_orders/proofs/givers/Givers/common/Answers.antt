@@ -1,6 +1,6 @@
 use Rattle.std.proofs.Common.{◌<◌, length, get_or, arith}
 use Rattle.std.proofs.lemmas.Bool.Decides.{nat_tests}
-use Rattle.lm_orders.proofs.Listing.{read_has, common_more}
+use Rattle.lm_orders.proofs.ListLaws.{read_has, common_more}
 use Rattle.lm_orders.proofs.givers.Givers.common.Goals as goal
 
 pub row-requires : goal.row-requires

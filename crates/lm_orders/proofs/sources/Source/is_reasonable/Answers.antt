@@ -1,6 +1,6 @@
 use Rattle.std.proofs.Common.{◌≡◌, ◌∙◌, sym, true, false}
 use Rattle.std.proofs.lemmas.Bool.{both_ways}
-use Rattle.lm_orders.proofs.Judging.{new_from, new_to, new_differs, reasonable_from, reasonable_hinders, reasonable_is_new}
+use Rattle.lm_orders.proofs.OrderTests.{new_from, new_to, new_differs, reasonable_from, reasonable_hinders, reasonable_is_new}
 use Rattle.lm_orders.proofs.sources.Source.is_reasonable.Goals as goal
 
 pub returns-then-not-is_new-clause-reasonable : goal.returns-then-not-is_new-clause-reasonable

@@ -2,7 +2,7 @@ use Rattle.std.proofs.Common.{◌≡◌, ◌∙◌, sym, ap, inl, inr, false, Li
 use Rattle.std.proofs.lemmas.Bool.{both_ways}
 use Rattle.lm_graph.specs.declared.nodes.Node.{Node}
 use Rattle.lm_orders.specs.Reasonable.{is_goal_at}
-use Rattle.lm_orders.proofs.Judging.{past_from, past_to}
+use Rattle.lm_orders.proofs.OrderTests.{past_from, past_to}
 use Rattle.lm_orders.proofs.sources.Source.is_wanted.Goals as goal
 
 pub returns : goal.returns

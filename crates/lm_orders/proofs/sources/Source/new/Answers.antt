@@ -1,4 +1,4 @@
-use Rattle.lm_orders.proofs.Judging.{source_fits}
+use Rattle.lm_orders.proofs.OrderTests.{source_fits}
 use Rattle.lm_orders.proofs.sources.Source.new.Goals as goal
 
 pub returns-clause-source : goal.returns-clause-source

@@ -1,7 +1,7 @@
 use Rattle.std.proofs.Common.{◌<◌, arith, refl, ap, sym, subst, ◌∙◌, length, List, ℕ, slice_get}
 use Rattle.std.proofs.lemmas.Option.{slice_get_read}
 use Rattle.packed_state.specs.Packing.{Places, IsLaid, value_in}
-use Rattle.packed_state.proofs.Reading.{reads}
+use Rattle.packed_state.proofs.FieldReads.{reads}
 use Rattle.packed_state.proofs.layout.Layout.get.Goals as goal
 
 pub returns : goal.returns

@@ -3,8 +3,8 @@ use Rattle.std.proofs.lemmas.Option.{slice_get_read}
 use Rattle.sas_task.specs.declared.contents.Parts.{Parts}
 use Rattle.sas_task.specs.declared.contents.Variable.{Variable}
 use Rattle.packed_state.specs.declared.fields.Field.{Field}
-use Rattle.packed_state.proofs.Laying.{laid_more, laid_in, room_more}
-use Rattle.packed_state.proofs.Reading.{layout_for}
+use Rattle.packed_state.proofs.FieldLayout.{laid_more, laid_in, room_more}
+use Rattle.packed_state.proofs.FieldReads.{layout_for}
 use Rattle.packed_state.proofs.layout.Layout.new.Goals as goal
 
 pub loop-variable-preserved : goal.loop-variable-preserved

@@ -1,7 +1,7 @@
 use Rattle.std.proofs.Common.{◌≡◌, ℕ, ◌≤◌, ◌^◌, length, slice_get, Some}
 use Rattle.sas_task.specs.WellFormed.{range_of}
 use Rattle.packed_state.specs.declared.fields.Field.{Field}
-use Rattle.packed_state.proofs.Laying.{LaidTo}
+use Rattle.packed_state.proofs.FieldLayout.{LaidTo}
 use Rattle.packed_state.proofs.layout.Layout.new.Given as goal
 
 abbrev pub invariant-loop-variable : goal.invariant-loop-variable

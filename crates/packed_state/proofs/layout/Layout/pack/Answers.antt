@@ -1,7 +1,7 @@
 use Rattle.std.proofs.Common.{refl, sym, ap, subst, ◌∙◌, arith, length, ◌+◌, ◌<◌, slice_get}
 use Rattle.std.proofs.lemmas.Option.{slice_get_read}
 use Rattle.packed_state.specs.Packing.{Places, IsLaid}
-use Rattle.packed_state.proofs.Reading.{PackedTo, packed_more, free_now}
+use Rattle.packed_state.proofs.FieldReads.{PackedTo, packed_more, free_now}
 use Rattle.packed_state.proofs.layout.Layout.pack.Goals as goal
 
 pub write_field-requires-clause-free : goal.write_field-requires-clause-free

@@ -1,4 +1,4 @@
-use Rattle.packed_state.proofs.Reading.{PackedTo}
+use Rattle.packed_state.proofs.FieldReads.{PackedTo}
 use Rattle.packed_state.proofs.layout.Layout.pack.Given as goal
 
 abbrev pub invariant-loop-i : goal.invariant-loop-i

@@ -3,7 +3,7 @@ use Rattle.std.proofs.lemmas.Bool.{cases_eq}
 use Rattle.std.proofs.lemmas.List.{get_or-set_same, get_or-set_other}
 use Rattle.std.proofs.lemmas.Option.{slice_get_read}
 use Rattle.packed_state.specs.Packing.{Places, IsLaid, value_in}
-use Rattle.packed_state.proofs.Reading.{reads, same_list}
+use Rattle.packed_state.proofs.FieldReads.{reads, same_list}
 use Rattle.packed_state.proofs.layout.Layout.unpack.Goals as goal
 
 pub loop-i-preserved : goal.loop-i-preserved

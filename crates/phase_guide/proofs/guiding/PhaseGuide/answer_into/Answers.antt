@@ -9,7 +9,7 @@ use Rattle.phase_guide.specs.Fits.{Answers}
 use Rattle.phase_guide.specs.Guides.{Guiding, IsFor}
 use Rattle.phase_guide.specs.Kinds.{three_of, value_of}
 use Rattle.phase_guide.specs.Relaxings.{Tells, helpful_of}
-use Rattle.phase_guide.proofs.Answering.{says_dead, says_found, helpful_within}
+use Rattle.phase_guide.proofs.PathAnswers.{says_dead, says_found, helpful_within}
 use Rattle.phase_guide.proofs.guiding.PhaseGuide.answer_into.Goals as goal
 
 pub returns-in_default : goal.returns-in_default

@@ -6,7 +6,7 @@ use Rattle.guide.specs.Operators.{is_among}
 use Rattle.phase_guide.specs.Fits.{Answers, Fits}
 use Rattle.phase_guide.proofs.LastStates.{last_more}
 use Rattle.phase_guide.specs.Guides.{Guiding, IsFor}
-use Rattle.phase_guide.proofs.Answering.{on_ok, on_ok_map, stays_for, said_along, fits_stay, dead_is, preferred_is}
+use Rattle.phase_guide.proofs.PathAnswers.{on_ok, on_ok_map, stays_for, said_along, fits_stay, dead_is, preferred_is}
 use Rattle.phase_guide.proofs.guiding.PhaseGuideGuide.visit.Goals as goal
 
 pub answer_into-requires-clause-task : goal.answer_into-requires-clause-task

@@ -1,4 +1,4 @@
-use Rattle.phase_guide.proofs.Telling.{tells_nothing}
+use Rattle.phase_guide.proofs.EvaluatorAnswers.{tells_nothing}
 use Rattle.phase_guide.proofs.relaxing.Relaxing.evaluate.Goals as goal
 
 pub returns-in-Nothing-clause-tells : goal.returns-in-Nothing-clause-tells

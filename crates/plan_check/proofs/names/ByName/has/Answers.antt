@@ -1,6 +1,6 @@
 use Rattle.std.proofs.Common.{◌∙◌, ap}
 use Rattle.std.specs.Prelude.{is_some}
-use Rattle.plan_check.proofs.Naming.{next_of-some}
+use Rattle.plan_check.proofs.NamedOperators.{next_of-some}
 use Rattle.plan_check.proofs.names.ByName.has.Goals as goal
 
 pub returns : goal.returns

@@ -3,7 +3,7 @@ use Rattle.std.proofs.Math.ListN.{length-set}
 use Rattle.std.proofs.lemmas.Option.{slice_get_within, slice_get_read}
 use Rattle.sas_task.specs.declared.contents.Operator.{Operator}
 use Rattle.plan_check.specs.Names.{next_of}
-use Rattle.plan_check.proofs.Naming.{first_none, next_more, first_more}
+use Rattle.plan_check.proofs.NamedOperators.{first_none, next_more, first_more}
 use Rattle.plan_check.proofs.names.ByName.new.Goals as goal
 
 pub loop-op-init : goal.loop-op-init

@@ -1,6 +1,6 @@
 use Rattle.std.proofs.Common.{◌≡◌, sym, ap, subst, arith, length, List, ℕ}
 use Rattle.plan_check.specs.Layers.{IsEnd}
-use Rattle.plan_check.proofs.Layering.{wide_at, unpacked}
+use Rattle.plan_check.proofs.LayerPairs.{wide_at, unpacked}
 use Rattle.plan_check.proofs.Vectors.{written_back}
 use Rattle.plan_check.proofs.walker.Walker.restore.Goals as goal
 

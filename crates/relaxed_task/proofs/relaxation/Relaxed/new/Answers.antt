@@ -1,6 +1,6 @@
 use Rattle.std.proofs.Common.{rules}
 use Rattle.relaxed_task.specs.Relaxations.{IsRelaxed}
-use Rattle.relaxed_task.proofs.Numbering.{relaxed_sound}
+use Rattle.relaxed_task.proofs.TaskNumbers.{relaxed_sound}
 use Rattle.relaxed_task.proofs.ReachLaws.{no_operators_reach_the_goal}
 use Rattle.relaxed_task.proofs.relaxation.Relaxed.new.Goals as goal
 

@@ -2,7 +2,7 @@ use Rattle.std.proofs.Common.{◌≡◌, ◌<◌, ℕ, List, length, None, sym, 
 use Rattle.state_registry.specs.Interning.{Interns, IsAbsent, words_of}
 use Rattle.state_registry.specs.declared.interned.Interned.TheVariants.{New, Known, Full}
 use Rattle.state_registry.proofs.Vectors.{wide_known, wide_new, wide_full, wide_absent, words_of-length}
-use Rattle.state_registry.proofs.Interning.{on_err}
+use Rattle.state_registry.proofs.StateLookUps.{on_err}
 use Rattle.state_registry.proofs.wide.Wide.intern.Goals as goal
 
 pub returns-in-Some-clause-ok : goal.returns-in-Some-clause-ok

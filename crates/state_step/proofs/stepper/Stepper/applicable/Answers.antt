@@ -1,5 +1,5 @@
 use Rattle.std.proofs.Common.{◌≡◌, ◌∙◌, ap, map}
-use Rattle.state_step.proofs.Looking.{pre_row_within, pre_row_holds}
+use Rattle.state_step.proofs.OperatorTables.{pre_row_within, pre_row_holds}
 use Rattle.state_step.proofs.stepper.Stepper.applicable.Goals as goal
 
 pub all_hold-requires : goal.all_hold-requires

@@ -2,7 +2,7 @@ use Rattle.std.proofs.Common.{◌<◌, length, subst, sym}
 use Rattle.state_step.specs.Stepper.{Steps}
 use Rattle.sas_task.proofs.RunLaws.{applicable-within}
 use Rattle.state_step.specs.Tables.{AreEffects, AreTables}
-use Rattle.state_step.proofs.Looking.{changes_within, changes_step}
+use Rattle.state_step.proofs.OperatorTables.{changes_within, changes_step}
 use Rattle.state_step.proofs.stepper.Stepper.apply_into.Goals as goal
 
 pub write_changes-requires-clause-facts : goal.write_changes-requires-clause-facts

@@ -3,7 +3,7 @@ use Rattle.std.proofs.lemmas.List.Filters.{dedup_is}
 use Rattle.succ_gen.specs.declared.nodes.Node.{Node}
 use Rattle.succ_gen.specs.Trees.{Stored}
 use Rattle.succ_gen.specs.Walks.{AreFound}
-use Rattle.succ_gen.proofs.Ascending.{applicable_from}
+use Rattle.succ_gen.proofs.AscendingLists.{applicable_from}
 use Rattle.succ_gen.proofs.tree.Tree.applicable_into.Goals as goal
 
 pub returns-clause-operators : goal.returns-clause-operators

@@ -11,7 +11,7 @@ use Rattle.sas_task.specs.Order.{distinct, on_variable, effects_on, is_prevail, 
 use Rattle.sas_task.specs.declared.contents.Fact.{Fact}
 use Rattle.sas_task.specs.declared.contents.Effect.{Effect}
 use Rattle.sas_task.proofs.FactLists.{same-refl, isn't, filter-none, Apart, apart-filter, apart-distinct}
-use Rattle.sas_task.proofs.Arranging.{on, on-var, on-prevail, prevail-none, prevail-some, drop-none, drop-some, has-get, filter-true}
+use Rattle.sas_task.proofs.PreconditionOrder.{on, on-var, on-prevail, prevail-none, prevail-some, drop-none, drop-some, has-get, filter-true}
 
 -- standing, effect by effect
 

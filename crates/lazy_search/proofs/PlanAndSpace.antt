@@ -32,8 +32,8 @@ use Rattle.lazy_search.specs.Origins.{AreEarlier, Traced}
 use Rattle.lazy_search.specs.Origins.Traced.{first, later}
 use Rattle.lazy_search.specs.Machines.{past_in, row_of, visit_at, OriginsStand, Keeps, Rests}
 use Rattle.lazy_search.specs.Ends.{EndsInPlan, EndsInSpace}
-use Rattle.lazy_search.proofs.Reaching.{sound_of, row_there, nothing_held}
-use Rattle.lazy_search.proofs.Deciding.{rows_count, words_there}
+use Rattle.lazy_search.proofs.TakenEntries.{sound_of, row_there, nothing_held}
+use Rattle.lazy_search.proofs.LookUps.{rows_count, words_there}
 
 -- one element more in front
 pub take_one : {X : Type 0} (xs : List X) (i : ℕ) (x : X) → slice_get xs i ≡ Some x → take (i + 1) xs ≡ take i xs ++ x ∷ []

@@ -9,8 +9,8 @@ use Rattle.packed_state.specs.Packing.{Places}
 use Rattle.plan_check.specs.Verdicts.{reaches_goal, least, is_plan_at, ends, least_cost, first_plan}
 use Rattle.plan_check.specs.Layers.{end_words, Leads, AreEnds, IsAfter}
 use Rattle.plan_check.specs.declared.tracing.Link.{Link}
-use Rattle.plan_check.proofs.Leading.{leads_one}
-use Rattle.plan_check.proofs.Reaching.{item_at, first_plan-ends}
+use Rattle.plan_check.proofs.LinkPaths.{leads_one}
+use Rattle.plan_check.proofs.GoalChoices.{item_at, first_plan-ends}
 
 module _ (parts : Parts) (layout : Places) (names : List (List ℕ)) (links : List Link) (first : ℕ) (pairs : List (List ℕ)) (end : IsAfter parts layout names links first (length names) pairs) where
   all_names : take (length names) names ≡ names

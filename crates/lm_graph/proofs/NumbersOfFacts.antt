@@ -7,7 +7,7 @@ use Rattle.sas_task.specs.Facts.{same_fact, has_fact}
 use Rattle.sas_task.specs.declared.contents.Fact.{Fact}
 use Rattle.lm_graph.specs.declared.fact_table.FactTable.{FactTable}
 use Rattle.lm_graph.specs.FactTables.{numbers_at, PutsNumber, AddsNumber}
-use Rattle.lm_graph.proofs.Looking.{facts_equal}
+use Rattle.lm_graph.proofs.FactLookUps.{facts_equal}
 use Rattle.sas_task.proofs.FactLists.{same-refl as same_itself}
 
 pub adds_none : (table : FactTable) (number : ℕ) → AddsNumber table table [] number

@@ -44,8 +44,8 @@ use Rattle.lazy_search.specs.Outcomes.{outcome_of, turned_by}
 use Rattle.lazy_search.specs.Visits.{IsBlank, row_for}
 use Rattle.lazy_search.specs.Machines.{row_of, OriginsStand, ListsStand, Rests, IsGuided, TurnEnds}
 use Rattle.lazy_search.specs.Phases.{phase_of}
-use Rattle.lazy_search.proofs.Growing.{Grown, lists_visited}
-use Rattle.lazy_search.proofs.Visiting.{Noted, noted_grows, counters_low}
+use Rattle.lazy_search.proofs.Expansions.{Grown, lists_visited}
+use Rattle.lazy_search.proofs.VisitLaws.{Noted, noted_grows, counters_low}
 
 -- empty lists stand for what came before the first visit
 counter_zero : (phase : Phase) (k : ℕ) → counter phase (past_with [] []) k ≡ pos 0

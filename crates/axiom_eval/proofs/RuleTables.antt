@@ -25,8 +25,8 @@ use Rattle.axiom_eval.specs.declared.building.Slot.{Slot}
 use Rattle.axiom_eval.specs.declared.tables.Head.{Head}
 use Rattle.axiom_eval.specs.declared.tables.Rules.{Rules}
 use Rattle.axiom_eval.proofs.Sound.{all_from_get, same_layer, layer_same}
-use Rattle.axiom_eval.proofs.Hearing.{any_get, any_found, IsFound}
-use Rattle.axiom_eval.proofs.Resetting.{all_at}
+use Rattle.axiom_eval.proofs.TriedRules.{any_get, any_found, IsFound}
+use Rattle.axiom_eval.proofs.DefaultValues.{all_at}
 use Rattle.std.proofs.lemmas.Bool.{eqb-true as same_nat}
 
 or_true : (a : Bool) → (a || true) ≡ true

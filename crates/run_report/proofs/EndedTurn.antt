@@ -18,8 +18,8 @@ use Rattle.run_report.specs.Turns.{Offered, ToldTurn, offer_of, begun_of, turn_e
 use Rattle.run_report.specs.Tells.{between, events_of}
 use Rattle.run_report.specs.Searches.{Run}
 use Rattle.run_report.specs.Runs.{IsUnderWay}
-use Rattle.run_report.proofs.Going.{events_between}
-use Rattle.run_report.proofs.Completing.{taken}
+use Rattle.run_report.proofs.TurnEvents.{events_between}
+use Rattle.run_report.proofs.CompleteRuns.{taken}
 use Rattle.lama_num.proofs.BoolLaws.{or-true as or_true}
 
 rounds_told : (turn : Turn) (offered : List Offered) (round entry : ℕ) (how : Part) (last : Bool) → filter_map round_in (map (offer_of turn) offered ++ ends_as (turn_of round entry) how last ∷ []) ≡ round ∷ []

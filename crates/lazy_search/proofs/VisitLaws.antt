@@ -44,9 +44,9 @@ use Rattle.lazy_search.specs.Outcomes.{pop_by, outcome_of, turned_by}
 use Rattle.lazy_search.specs.Visits.{row_for, Grows}
 use Rattle.lazy_search.specs.Machines.{row_of, packed_at, visit_at, OriginsStand, ListsStand, Keeps, Rests, GoesFrom, place_there, Reaches, IsVisited, IsGuided, TurnEnds}
 use Rattle.lazy_search.specs.Phases.{phase_of}
-use Rattle.lazy_search.proofs.Reaching.{sound_of}
-use Rattle.lazy_search.proofs.Growing.{Grown, grown_expanded, grown_still, lists_visited, origins_visited, rows_visited}
-use Rattle.lazy_search.proofs.Taking.{goes_reached, next_turn, lists_popped}
+use Rattle.lazy_search.proofs.TakenEntries.{sound_of}
+use Rattle.lazy_search.proofs.Expansions.{Grown, grown_expanded, grown_still, lists_visited, origins_visited, rows_visited}
+use Rattle.lazy_search.proofs.NextPops.{goes_reached, next_turn, lists_popped}
 use Rattle.lama_num.proofs.BoolLaws.{and-false}
 
 -- what a machine notes of a visit, of which the guides have spoken

@@ -8,7 +8,7 @@ use Rattle.lama_host.proofs.FileLaws.{get-insert_same, get-insert_other, get-rem
 use Rattle.lama_host.specs.Folder.{Told, Files, WhereTold, Changes, Keeps, Once, renamed, last_of}
 use Rattle.plan_manager.specs.Keeping.{Drafts, IsPlaced, Places}
 use Rattle.lama_host.proofs.StepLaws.{changes_then, changes_weaker, told_before}
-use Rattle.plan_manager.proofs.Removing.{nothing_ok}
+use Rattle.plan_manager.proofs.RemovedNames.{nothing_ok}
 
 on_err : {T E : Type 0} (result : Result T E) (P : Type 0) → P → OnErr result P
 on_err (Ok x) P is = tt

@@ -24,7 +24,7 @@ use Rattle.lm_backchain.specs.Growth.{Takes, IsGreedy, Works, IsTakenBack, IsTak
 use Rattle.lm_backchain.specs.Singles.{AreKept, IsKept, Keeps}
 use Rattle.lm_backchain.specs.declared.singles.Single.{Single}
 use Rattle.lm_backchain.proofs.FactLists.{has_self, same_self}
-use Rattle.lm_backchain.proofs.Listing.{push_cases, among_cases, among_one, among_none, read_at, take_more_at}
+use Rattle.lm_backchain.proofs.ListLaws.{push_cases, among_cases, among_one, among_none, read_at, take_more_at}
 use Rattle.lm_graph.proofs.Lists.{get_front as front_get}
 
 abbrev facts_of : Node → List Fact

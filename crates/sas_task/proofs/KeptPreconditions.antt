@@ -14,10 +14,10 @@ use Rattle.sas_task.specs.declared.contents.Fact.{Fact}
 use Rattle.sas_task.specs.declared.contents.Effect.{Effect}
 use Rattle.sas_task.specs.declared.contents.Operator.{Operator}
 use Rattle.sas_task.proofs.FactLists.{same-refl, same-sym, isn't, has-append, Apart, apart-distinct, distinct-apart}
-use Rattle.sas_task.proofs.Arranging.{on, on-var, has-all, has-get, filter-twice}
+use Rattle.sas_task.proofs.PreconditionOrder.{on, on-var, has-all, has-get, filter-twice}
 use Rattle.std.proofs.lemmas.Bool.{eqb-true as same_numbers}
 use Rattle.lama_num.proofs.BoolLaws.{nat_eq-refl}
-use Rattle.sas_task.proofs.Moving.{Stays, Moves, one_more, prevail-nil, standing_from, standing_is}
+use Rattle.sas_task.proofs.MovedPreconditions.{Stays, Moves, one_more, prevail-nil, standing_from, standing_is}
 use Rattle.std.proofs.lemmas.Bool.{or_parts as or_false}
 
 -- What a move of one fact to the end keeps, the order of preconditions keeps.

@@ -14,7 +14,7 @@ use Rattle.sas_task.specs.States.{is_applicable}
 use Rattle.sas_task.proofs.RunLaws.{applicable-within}
 use Rattle.succ_gen.specs.Trees.{Stored, applicable, IsFound, IsFor}
 use Rattle.succ_gen.specs.Walks.{AreFound}
-use Rattle.succ_gen.proofs.Reaching.{contains_tail, has_filter, range_increasing}
+use Rattle.succ_gen.proofs.TreeWalk.{contains_tail, has_filter, range_increasing}
 
 cons_cases : (y z : ℕ) (ys : List ℕ) → Contains (y ∷ ys) z → (y ≡ z) ⊎ Contains ys z
 cons_cases y z ys has = by has.0 has.1 has.2

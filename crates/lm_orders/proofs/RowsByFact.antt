@@ -12,7 +12,7 @@ use Rattle.lm_graph.specs.declared.fact_table.FactTable.{FactTable}
 use Rattle.lm_graph.specs.FactTables.{numbers_at, AddsNumber}
 use Rattle.lm_orders.specs.Givers.{Indexes}
 use Rattle.lm_orders.specs.Tables.{share, mutex_by}
-use Rattle.lm_orders.proofs.Listing.{row_past, row_last, row_other, row_place, row_read}
+use Rattle.lm_orders.proofs.ListLaws.{row_past, row_last, row_other, row_place, row_read}
 use Rattle.lama_num.proofs.ListLaws.{any_get}
 use Rattle.lama_num.proofs.BoolLaws.{both_ways}
 

@@ -41,7 +41,7 @@ use Rattle.lazy_search.specs.Outcomes.{pop_by, PopsOne}
 use Rattle.lazy_search.specs.declared.steps.Decision.TheVariants as decision
 use Rattle.lazy_search.specs.declared.steps.Turned.TheVariants.{Empty, Done, AtFull}
 use Rattle.lazy_search.specs.Machines.{past_in, packed_at, OriginsStand, ListsStand, Rests, GoesFrom, place_there, Reaches, Arrives, IsGuided, AfterTurn}
-use Rattle.lazy_search.proofs.Reaching.{sound_of}
+use Rattle.lazy_search.proofs.TakenEntries.{sound_of}
 
 -- where a pop of an entry leads
 pub goes_reached : (phase : Phase) (past : Past) (popped : Popped) (outcome : PopResult) (g : GoesFrom phase past popped.entry) → reached phase past (pop_by popped outcome) ≡ Some (place_there phase past popped.entry g)

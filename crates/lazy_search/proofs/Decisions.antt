@@ -20,8 +20,8 @@ use Rattle.lazy_search.specs.declared.steps.Reached.{Reached}
 use Rattle.lazy_search.specs.declared.steps.Decision.TheVariants.{Known, Full, New, Again}
 use Rattle.lazy_search.specs.States.{AreFor}
 use Rattle.lazy_search.specs.Machines.{packed_at, place_there, Reaches, Arrives}
-use Rattle.lazy_search.proofs.Reaching.{sound_of}
-use Rattle.lazy_search.proofs.Deciding.{IsThere, next_is, to_state, known_there, rows_count, visits_new, finds_full, stays_known, visits_again}
+use Rattle.lazy_search.proofs.TakenEntries.{sound_of}
+use Rattle.lazy_search.proofs.LookUps.{IsThere, next_is, to_state, known_there, rows_count, visits_new, finds_full, stays_known, visits_again}
 
 -- the machine with other states
 abbrev pub with_states : Machine → States → Machine

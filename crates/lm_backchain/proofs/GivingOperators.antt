@@ -18,7 +18,7 @@ use Rattle.lm_graph.specs.declared.fact_table.FactTable.{FactTable}
 use Rattle.lm_graph.specs.FactTables.{numbers_at, AddsNumber}
 use Rattle.lm_backchain.specs.Backchain.{has, gives_one}
 use Rattle.lm_backchain.specs.Givers.{gives_at, FindsGivers, AreGivers}
-use Rattle.lm_backchain.proofs.Listing.{take_more_at}
+use Rattle.lm_backchain.proofs.ListLaws.{take_more_at}
 
 pub gives_at_of : (parts : Parts) (facts : List Fact) (op : ℕ) (o : Operator) → slice_get parts.operators op ≡ Some o → gives_at parts facts op ≡ gives_one facts o
 gives_at_of parts facts op o at = rw at refl

@@ -11,7 +11,7 @@ use Rattle.sas_reader.specs.Formats.{Format, Done, Line, Kind, Value, value_of, 
 use Rattle.sas_reader.specs.Formats as formats
 use Rattle.sas_reader.specs.Walks.{walk, next, next_by}
 use Rattle.sas_reader.specs.declared.faults.SasFault.{SasFault}
-use Rattle.sas_reader.proofs.Walking.{walk_on as walk-bind, bind_bind, bind_same}
+use Rattle.sas_reader.proofs.FormatWalks.{walk_on as walk-bind, bind_bind, bind_same}
 
 -- Whatever stands behind these lines, the format reads them as this, and no line more. None of them has anything that reading drops.
 pub record Reads {A : Type 0} (format : Format A) (lines : List (List ℕ)) (x : A) : Type 0 where

@@ -12,14 +12,14 @@ use Rattle.sas_task.specs.Costs.{is_unit_cost}
 use Rattle.sas_task.specs.Order.{ordered, in_order, prevail_count, has_few_prevail, IsInOrder}
 use Rattle.sas_task.specs.Refusals.{conditions_of, names_of, is_wide, is_sound_effect, is_sound_operator, is_sound_rule, is_sound, is_good_rule, refusal_of, canonical_parts}
 use Rattle.sas_task.proofs.Admission.{IsAccepted}
-use Rattle.sas_task.proofs.Accepting.{is_accepted}
+use Rattle.sas_task.proofs.AcceptedTests.{is_accepted}
 use Rattle.sas_task.specs.declared.contents.Variable.{Variable}
 use Rattle.sas_task.specs.declared.contents.Effect.{Effect}
 use Rattle.sas_task.specs.declared.contents.Operator.{Operator}
 use Rattle.sas_task.specs.declared.contents.Rule.{Rule}
 use Rattle.sas_task.specs.declared.contents.Parts.{Parts}
 use Rattle.sas_task.proofs.TestLaws.{within, le-test, test-le, one-within, and_true, all-two, all-one, all-and, within-flat_map, within-map}
-use Rattle.sas_task.proofs.Permuting.{all-ordered, is_in_order, few_prevail, length-ordered}
+use Rattle.sas_task.proofs.KeptPreconditions.{all-ordered, is_in_order, few_prevail, length-ordered}
 use Rattle.sas_task.proofs.TableLaws.{length-filter-le}
 
 -- variables

@@ -27,8 +27,8 @@ use Rattle.lm_backchain.specs.Backchain.{has, conditions_of, Among, IsPossibleFi
 use Rattle.lm_backchain.specs.Firsts.{Knows, AreReached, Achieves, IsIn, HasFirsts, AreFirsts}
 use Rattle.lm_backchain.specs.Givers.{AreGivers}
 use Rattle.lm_backchain.proofs.FactLists.{has_one}
-use Rattle.lm_backchain.proofs.Giving.{given_there}
-use Rattle.lm_backchain.proofs.Listing.{among_front, among_back, among_cases, among_one, among_itself, among_none, take_more_at}
+use Rattle.lm_backchain.proofs.GivingOperators.{given_there}
+use Rattle.lm_backchain.proofs.ListLaws.{among_front, among_back, among_cases, among_one, among_itself, among_none, take_more_at}
 
 -- the conditions of an effect of the task are its facts
 pub conditions_there : (parts : Parts) (op place : ℕ) (o : Operator) (e : Effect) → IsWellFormed parts → slice_get parts.operators op ≡ Some o → slice_get o.effects place ≡ Some e → list_all (is_fact parts.variables) (conditions_of o e) ≡ true

@@ -19,7 +19,7 @@ use Rattle.lm_backchain.specs.Backchain.{has, is_open, Among, singles, IsPossibl
 use Rattle.lm_backchain.specs.Firsts.{AreFirsts}
 use Rattle.lm_backchain.specs.Growth.{IsTakenBack}
 use Rattle.lm_backchain.proofs.FactLists.{same_self, has_one, has_self, has_at, at_has}
-use Rattle.lm_backchain.proofs.Listing.{among_front, among_back, among_cases, among_one, among_itself, among_none, single_at, at_single, take_more_at, put_kept, put_there, put_cases}
+use Rattle.lm_backchain.proofs.ListLaws.{among_front, among_back, among_cases, among_one, among_itself, among_none, single_at, at_single, take_more_at, put_kept, put_there, put_cases}
 use Rattle.lm_backchain.proofs.Ordered.{shorter, same_ascending}
 
 -- collecting

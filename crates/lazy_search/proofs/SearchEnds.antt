@@ -20,7 +20,7 @@ use Rattle.lazy_search.specs.declared.shape.Shape.{Shape}
 use Rattle.lazy_search.specs.Machines.{past_in, Rests}
 use Rattle.lazy_search.specs.Phases.{phase_of}
 use Rattle.lazy_search.specs.Ends.{Tells, EndsInPlan, EndsInSpace, EndsSo, EndHolds, ClockHolds, IsAnswered, moment_by, past_by, phase_by}
-use Rattle.lazy_search.proofs.Halting.{IsOver, first_over}
+use Rattle.lazy_search.proofs.HaltLaws.{IsOver, first_over}
 use Rattle.lazy_search.specs.Halts.{Halts, HaltEnds}
 
 -- the past of a halt is what the log tells

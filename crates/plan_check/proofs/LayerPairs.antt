@@ -21,8 +21,8 @@ use Rattle.plan_check.proofs.LayerLaws.{one_more}
 use Rattle.plan_check.specs.declared.tracing.Link.{Link}
 use Rattle.plan_check.proofs.Ends.{by_kind, kind_of, last_state-state, end_more, words_at_end, cost_of-small, take_more, ends-step}
 use Rattle.plan_check.proofs.Firsts.{firsts_more, firsts_fewer}
-use Rattle.plan_check.proofs.Leading.{leads_more, leads_long}
-use Rattle.plan_check.proofs.Reaching.{item_at}
+use Rattle.plan_check.proofs.LinkPaths.{leads_more, leads_long}
+use Rattle.plan_check.proofs.GoalChoices.{item_at}
 
 last_same : (xs ys : List ℕ) (x y : ℕ) → xs ++ x ∷ [] ≡ ys ++ y ∷ [] → (xs ≡ ys) × (x ≡ y)
 last_same [] [] x y is = (refl, (let same : x ≡ y = cc in same))

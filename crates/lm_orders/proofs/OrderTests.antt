@@ -24,10 +24,10 @@ use Rattle.lm_orders.specs.Reasonable.{LeadsPast, IsWanted, IsReasonable}
 use Rattle.lm_orders.specs.Sources.{IsSource, is_past, is_new_by, interferes_by}
 use Rattle.lm_orders.specs.Tables.{mutex_by, AreTables, SameStrong}
 use Rattle.lm_orders.proofs.Companies.{kind_place, greedy_is}
-use Rattle.lm_orders.proofs.Indexing.{mutex_same}
-use Rattle.lm_orders.proofs.Listing.{any_has, has_any}
+use Rattle.lm_orders.proofs.RowsByFact.{mutex_same}
+use Rattle.lm_orders.proofs.ListLaws.{any_has, has_any}
 use Rattle.lama_num.proofs.ListLaws.{any_get}
-use Rattle.lm_orders.proofs.Passing.{path_along}
+use Rattle.lm_orders.proofs.OrderPaths.{path_along}
 
 none_is : (o : Option Order) → is_none o ≡ true → o ≡ None
 none_is None h = refl

@@ -9,7 +9,7 @@ use Rattle.lama_host.proofs.AppendLaws.{last_of-growth}
 use Rattle.plan_manager.specs.Keeping.{IsFront, IsDraft, Drafts}
 use Rattle.lama_host.proofs.StepLaws.{each-append, each_once, last_of-append, last_once, changes_then, changes_weaker}
 use Rattle.lama_host.specs.Steps.{Each}
-use Rattle.plan_manager.proofs.Removing.{nothing_ok}
+use Rattle.plan_manager.proofs.RemovedNames.{nothing_ok}
 
 -- drafts so far, and what is left of the text
 abbrev pub Drafted : List ℕ → List ℕ → List ℕ → Files → List Files → Type 0

@@ -24,7 +24,7 @@ use Rattle.run_report.specs.Events.{AreInOrder}
 use Rattle.run_report.specs.Searches.{Run, EndsAs}
 use Rattle.run_report.specs.Runs.{IsUnderWay}
 use Rattle.run_report.proofs.Lists.{plans-last, candidates-last, plans-offered, candidates-offered, among-none}
-use Rattle.run_report.proofs.Planning.{more_plan}
+use Rattle.run_report.proofs.OneMorePlan.{more_plan}
 
 abbrev costs_of : List Kept → List ℕ
 costs_of kept = map (λ (plan : Kept). plan.cost) kept

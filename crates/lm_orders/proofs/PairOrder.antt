@@ -19,7 +19,7 @@ use Rattle.lm_orders.specs.Reasonable.{IsReasonable, is_earlier, standing, IsJud
 use Rattle.lm_orders.specs.Sources.{IsSource, IsUnderWay, IsAtSource}
 use Rattle.lm_orders.specs.Tables.{AreTables, SameStrong}
 use Rattle.lm_orders.proofs.Companies.{greedy_is}
-use Rattle.lm_orders.proofs.Passing.{path_along, path_back, put_here, strong_stay, orders_grow}
+use Rattle.lm_orders.proofs.OrderPaths.{path_along, path_back, put_here, strong_stay, orders_grow}
 
 -- which pairs are earlier
 
