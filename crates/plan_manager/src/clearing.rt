@@ -1,5 +1,5 @@
 // Taking the plan files of a base away.
-ghost use Rattle.std.specs.Prelude.{◌≡◌, ◌≤◌, length};
+ghost use Rattle.std.specs.Prelude.{◌+◌, ◌≡◌, ◌≤◌, length};
 ghost use Rattle.std.specs.FinMap.{remove};
 ghost use Rattle.lama_host.specs.Folder.{Keeps, Changes, Once};
 ghost use Rattle.lama_num.specs.Names.{IsEntryNumber, child_name};

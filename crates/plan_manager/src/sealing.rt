@@ -1,5 +1,5 @@
 // Sealing: afterwards the folder holds just the plans.
-ghost use Rattle.std.specs.Prelude.{◌≡◌, ◌≢◌, ◌≤◌, ◌<◌, ◌^◌, [], length, false, if◌then◌else◌};
+ghost use Rattle.std.specs.Prelude.{◌+◌, ◌≡◌, ◌≢◌, ◌≤◌, ◌<◌, ◌^◌, [], length, false, if◌then◌else◌};
 ghost use Rattle.lama_host.specs.Folder.{Keeps, Changes};
 ghost use Rattle.lama_num.specs.Names.{part_name};
 ghost use Rattle.plan_text.specs.PlanText.{plan_text};
