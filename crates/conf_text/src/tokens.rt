@@ -129,6 +129,7 @@ impl<'a> Token<'a> {
 }
 
 impl<'a> Cursor<'a> {
+    /// A cursor before the first token of a text.
     pub fn new(text: &'a [u8]) -> Cursor<'a>
         ensures { result ≡ record { place = 0; left = text.now } }
     {

@@ -26,12 +26,14 @@ impl Model for Link {
 }
 
 impl Link {
+    /// A link that leads nowhere.
     pub fn nothing() -> Link
         ensures { result ≡ None }
     {
         Link { raw: NOTHING }
     }
 
+    /// A link to a number.
     pub fn to(number: u32) -> Link
         requires { number < 4294967295 }
         ensures { result ≡ Some number }
@@ -39,6 +41,7 @@ impl Link {
         Link { raw: number }
     }
 
+    /// The number that it leads to, if it leads to one.
     pub fn number(self) -> Option<u32>
         ensures { result ≡ self }
     {

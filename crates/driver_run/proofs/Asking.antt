@@ -5,7 +5,7 @@ use Rattle.conf_text.specs.declared.config.Config.{Config}
 use Rattle.iterated.specs.Following.{begun}
 use Rattle.search_log.specs.declared.turns.Pop.{Pop}
 use Rattle.search_log.specs.Phases.{Phase as SearchPhase}
-use Rattle.search_log.proofs.ClockLaws.{no_answers}
+use Rattle.log_laws.proofs.ClockLaws.{no_answers}
 use Rattle.lazy_search.specs.declared.end.SearchEnd.{SearchEnd}
 use Rattle.lazy_search.specs.declared.end.SearchEnd.TheVariants as search
 use Rattle.lazy_search.specs.Ends.{IsAnswered, ClockHolds, TellsOn}

@@ -17,7 +17,7 @@ use Rattle.search_log.specs.declared.setting.LimitHit.{LimitHit}
 use Rattle.search_log.specs.declared.setting.LimitHit.TheVariants.{Time, Pops, States}
 use Rattle.search_log.specs.Logs.{Content}
 use Rattle.search_log.specs.Phases.{IsPhase, IsSetting}
-use Rattle.search_log.proofs.RoomLaws.{pops_below_room, full_below_room}
+use Rattle.log_laws.proofs.RoomLaws.{pops_below_room, full_below_room}
 use Rattle.iterated.specs.declared.ends.PhaseEnd.TheVariants as ended
 use Rattle.iterated.specs.Ends.{EndsFrom, PhaseEnds}
 use Rattle.iterated.specs.Iterating.{Iterating}

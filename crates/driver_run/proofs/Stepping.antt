@@ -22,7 +22,7 @@ use Rattle.iterated.specs.Following.{begun}
 use Rattle.search_log.specs.declared.turns.Pop.{Pop}
 use Rattle.search_log.specs.Logs.{Content, Visit}
 use Rattle.search_log.specs.Lawful.{Lawful}
-use Rattle.search_log.proofs.LogLaws.{lawful_numbers, pops_in}
+use Rattle.log_laws.proofs.LogLaws.{lawful_numbers, pops_in}
 use Rattle.search_log.specs.Phases.{Phase as SearchPhase}
 use Rattle.lama_num.specs.Bounds.{is_below as is_under}
 use Rattle.iterated.specs.declared.ends.PhaseEnd.{PhaseEnd}

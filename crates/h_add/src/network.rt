@@ -99,6 +99,7 @@ impl Network {
         })
     }
 
+    /// The relaxed task that it is made of.
     pub fn relaxed(&self) -> &Relaxed
         ensures { result.now ≡ self.now }
     {

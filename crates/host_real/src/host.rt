@@ -35,6 +35,7 @@ pub struct RealHost<'a, R: Files + Processes> {
 }
 
 impl<'a, R: Files + Processes> RealHost<'a, R> {
+    /// The current folder, without a running child.
     pub fn new(alloc: Global, rt: &'a R) -> RealHost<'a, R>
         ensures { slots result.running.items ≡ [] }
     {

@@ -16,6 +16,7 @@ pub struct RealClock<'a, R: SystemClock> {
 }
 
 impl<'a, R: SystemClock> RealClock<'a, R> {
+    /// A clock that begins now.
     pub fn new(rt: &'a R) -> RealClock<'a, R> {
         RealClock {
             rt,
@@ -53,6 +54,7 @@ pub struct RealSink<'a, R: Print> {
 }
 
 impl<'a, R: Print> RealSink<'a, R> {
+    /// Standard output, of which nothing has failed yet.
     pub fn new(rt: &'a R) -> RealSink<'a, R> {
         RealSink { rt, faults: 0 }
     }

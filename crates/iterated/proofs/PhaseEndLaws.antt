@@ -8,7 +8,7 @@ use Rattle.conf_text.specs.declared.config.Phase.{Phase}
 use Rattle.search_log.specs.declared.setting.Stop.{Stop}
 use Rattle.search_log.specs.Logs.{Content}
 use Rattle.search_log.specs.Members.{Member}
-use Rattle.search_log.proofs.SpaceLaws.{no_plan, no_cheaper_plan}
+use Rattle.log_laws.proofs.SpaceLaws.{no_plan, no_cheaper_plan}
 use Rattle.search_log.specs.Spaces.{IsExhausted, is_exact}
 use Rattle.lazy_search.specs.declared.end.SearchEnd.{SearchEnd}
 use Rattle.lazy_search.specs.declared.end.SearchEnd.TheVariants as search

@@ -10,7 +10,7 @@ use Rattle.search_log.specs.declared.setting.LimitHit.TheVariants.{Time}
 use Rattle.search_log.specs.declared.turns.Pop.{Pop}
 use Rattle.search_log.specs.Phases.{Phase}
 use Rattle.search_log.specs.Clocks.{unfinal, times_asked, is_late, AreAnswers}
-use Rattle.search_log.proofs.ClockLaws.{unasked, first_early, first_late, unasked_final, unasked_between, asked_again, unfinal_more, answers_stay, one_early, one_late}
+use Rattle.log_laws.proofs.ClockLaws.{unasked, first_early, first_late, unasked_final, unasked_between, asked_again, unfinal_more, answers_stay, one_early, one_late}
 use Rattle.lazy_search.specs.Outcomes.{PopsOne}
 use Rattle.lazy_search.specs.Ends.{IsAnswered, TellsOn, IsBetween}
 use Rattle.lazy_search.specs.Halts.{Asks, moment_in}

@@ -12,7 +12,7 @@ use Rattle.state_registry.specs.declared.interned.Interned.TheVariants as found
 use Rattle.search_log.specs.Phases.{Phase, IsPhase}
 use Rattle.lama_num.specs.Bounds.{is_below}
 use Rattle.search_log.specs.Places.{Past, latest}
-use Rattle.search_log.proofs.TurnLaws.{result_over}
+use Rattle.log_laws.proofs.TurnLaws.{result_over}
 use Rattle.lazy_search.specs.declared.rows.LatestVisit.{LatestVisit}
 use Rattle.lazy_search.specs.declared.states.States.{States}
 use Rattle.lazy_search.specs.declared.machine.Machine.{Machine}

@@ -16,11 +16,11 @@ use Rattle.search_log.specs.Phases.{Phase, lists_of, is_for_preferred}
 use Rattle.lama_num.specs.Bounds.{is_below}
 use Rattle.search_log.specs.Places.{Node, put_latest, is_expanded, estimate}
 use Rattle.search_log.specs.Pending.{pending, puts_of, is_put, item_for}
-use Rattle.search_log.proofs.Elements.{filter-same, slice_get-push_other, slice_get-push_below}
+use Rattle.log_laws.proofs.Elements.{filter-same, slice_get-push_other, slice_get-push_below}
 use Rattle.lama_num.proofs.ListLaws.{slice_get-append_last as slice_get-push_at}
-use Rattle.search_log.proofs.PendingLaws.{pending-visited}
-use Rattle.search_log.proofs.CounterLaws.{counter-visit}
-use Rattle.search_log.proofs.TurnLaws.{past_with}
+use Rattle.log_laws.proofs.PendingLaws.{pending-visited}
+use Rattle.log_laws.proofs.CounterLaws.{counter-visit}
+use Rattle.log_laws.proofs.TurnLaws.{past_with}
 use Rattle.std.specs.List.{list_all}
 use Rattle.std.specs.Prelude.{nat_lt}
 use Rattle.lazy_search.specs.declared.shape.Shape.{Shape}

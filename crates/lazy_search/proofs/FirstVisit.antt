@@ -26,12 +26,12 @@ use Rattle.search_log.specs.Phases.{Phase, IsPhase, is_for_preferred}
 use Rattle.search_log.specs.Places.{Node, start_place, start_past}
 use Rattle.search_log.specs.Pending.{counter}
 use Rattle.search_log.specs.Lawful.{Logged}
-use Rattle.search_log.proofs.Elements.{one_at}
+use Rattle.log_laws.proofs.Elements.{one_at}
 use Rattle.search_log.specs.Counters.{LeastStand}
-use Rattle.search_log.proofs.CounterLaws.{least_visited}
-use Rattle.search_log.proofs.TurnLaws.{past_with}
-use Rattle.search_log.proofs.LogLaws.{logged_start}
-use Rattle.search_log.proofs.SoundLaws.{first_node}
+use Rattle.log_laws.proofs.CounterLaws.{least_visited}
+use Rattle.log_laws.proofs.TurnLaws.{past_with}
+use Rattle.log_laws.proofs.LogLaws.{logged_start}
+use Rattle.log_laws.proofs.SoundLaws.{first_node}
 use Rattle.lazy_search.specs.declared.rows.LatestVisit.{LatestVisit}
 use Rattle.lazy_search.specs.declared.paths.Origin.{Origin}
 use Rattle.lazy_search.specs.declared.shape.Shape.{Shape}

@@ -13,10 +13,10 @@ use Rattle.search_log.specs.Phases.{Phase, IsPhase}
 use Rattle.lama_num.specs.Bounds.{is_below}
 use Rattle.search_log.specs.Places.{Place, Node, Past, latest, put_latest, id_of}
 use Rattle.search_log.specs.Lawful.{result_of, is_reopened}
-use Rattle.search_log.proofs.Sound.{Sound}
-use Rattle.search_log.proofs.Elements.{from-map}
-use Rattle.search_log.proofs.SoundLaws.{id_known, id_new}
-use Rattle.search_log.proofs.TurnLaws.{result_full, result_new, result_again, result_stays}
+use Rattle.log_laws.proofs.Sound.{Sound}
+use Rattle.log_laws.proofs.Elements.{from-map}
+use Rattle.log_laws.proofs.SoundLaws.{id_known, id_new}
+use Rattle.log_laws.proofs.TurnLaws.{result_full, result_new, result_again, result_stays}
 use Rattle.lazy_search.specs.declared.rows.LatestVisit.{LatestVisit}
 use Rattle.lazy_search.specs.declared.machine.Machine.{Machine}
 use Rattle.open_lists.specs.declared.entry.Entry.{Entry}

@@ -21,14 +21,14 @@ use Rattle.search_log.specs.Pending.{pending, counter}
 use Rattle.search_log.specs.Lawful.{Logged, IsNext, GoesOn, result_of, is_full}
 use Rattle.search_log.specs.Ends.{EndsFull}
 use Rattle.search_log.specs.Clocks.{is_final}
-use Rattle.search_log.proofs.Sound.{Numbered}
+use Rattle.log_laws.proofs.Sound.{Numbered}
 use Rattle.lama_num.proofs.ListLaws.{slice_get-append_last as slice_get-push_at}
-use Rattle.search_log.proofs.PendingLaws.{pending-popped, pending-other}
+use Rattle.log_laws.proofs.PendingLaws.{pending-popped, pending-other}
 use Rattle.search_log.specs.Counters.{LeastStand}
-use Rattle.search_log.proofs.CounterLaws.{counter-pop_same, counter-pop_other}
-use Rattle.search_log.proofs.TurnLaws.{past_with, extend_bare}
-use Rattle.search_log.proofs.LogLaws.{logged_bare}
-use Rattle.search_log.proofs.SpaceLaws.{few_lists}
+use Rattle.log_laws.proofs.CounterLaws.{counter-pop_same, counter-pop_other}
+use Rattle.log_laws.proofs.TurnLaws.{past_with, extend_bare}
+use Rattle.log_laws.proofs.LogLaws.{logged_bare}
+use Rattle.log_laws.proofs.SpaceLaws.{few_lists}
 use Rattle.std.specs.Prelude.{Vec}
 use Rattle.std.specs.declared.alloc.Global.{Global}
 use Rattle.lazy_search.specs.declared.rows.LatestVisit.{LatestVisit}

@@ -20,10 +20,10 @@ use Rattle.search_log.specs.Lawful.{GoesOn}
 use Rattle.search_log.specs.Ends.{EndsInGoal, EndsExhausted, EndsAtPops, last_of}
 use Rattle.search_log.specs.Spaces.{node_member, space_of, IsExhausted, is_exact}
 use Rattle.search_log.specs.Guided.{TellsDead}
-use Rattle.search_log.proofs.Sound.{Sound, OnPath}
-use Rattle.search_log.proofs.Elements.{from-map}
-use Rattle.search_log.proofs.TableLaws.{latest-push, put_latest-at, table_grows}
-use Rattle.search_log.proofs.SpaceLaws.{lawful_exhausted}
+use Rattle.log_laws.proofs.Sound.{Sound, OnPath}
+use Rattle.log_laws.proofs.Elements.{from-map}
+use Rattle.log_laws.proofs.TableLaws.{latest-push, put_latest-at, table_grows}
+use Rattle.log_laws.proofs.SpaceLaws.{lawful_exhausted}
 use Rattle.lazy_search.specs.declared.rows.LatestVisit.{LatestVisit}
 use Rattle.lazy_search.specs.declared.paths.Origin.{Origin}
 use Rattle.lazy_search.specs.declared.machine.Machine.{Machine}

@@ -19,10 +19,10 @@ use Rattle.search_log.specs.Phases.{Phase, IsPhase, lists_of, adjusted_cost}
 use Rattle.search_log.specs.Places.{Place, Node, Past, latest, place_by}
 use Rattle.search_log.specs.Pending.{pending}
 use Rattle.search_log.specs.Lawful.{Logged}
-use Rattle.search_log.proofs.Sound.{Sound, LeadsOn}
-use Rattle.search_log.proofs.LogLaws.{Numbers, lawful_sound, lawful_numbers}
-use Rattle.search_log.proofs.NumberLaws.{counters_fit, costs_fit}
-use Rattle.search_log.proofs.WaitingLaws.{waiting_leads}
+use Rattle.log_laws.proofs.Sound.{Sound, LeadsOn}
+use Rattle.log_laws.proofs.LogLaws.{Numbers, lawful_sound, lawful_numbers}
+use Rattle.log_laws.proofs.NumberLaws.{counters_fit, costs_fit}
+use Rattle.log_laws.proofs.WaitingLaws.{waiting_leads}
 use Rattle.lazy_search.specs.declared.rows.LatestVisit.{LatestVisit}
 use Rattle.lazy_search.specs.declared.machine.Machine.{Machine}
 use Rattle.lazy_search.specs.Machines.{row_of, visit_at, ListsStand, Keeps, Rests, GoesFrom, Reaches}

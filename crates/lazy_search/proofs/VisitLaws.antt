@@ -19,16 +19,16 @@ use Rattle.search_log.specs.Phases.{Phase, IsPhase, lists_of}
 use Rattle.search_log.specs.Places.{Place, Node, Past, latest, node_at, is_expanded, is_goal_node, makes_visit}
 use Rattle.search_log.specs.Pending.{counter}
 use Rattle.search_log.specs.Lawful.{Logged, GoesOn, is_full, result_of}
-use Rattle.search_log.proofs.Sound.{Sound}
-use Rattle.search_log.proofs.Elements.{push_cases, none-at}
+use Rattle.log_laws.proofs.Sound.{Sound}
+use Rattle.log_laws.proofs.Elements.{push_cases, none-at}
 use Rattle.lama_num.proofs.ListLaws.{slice_get-append_last as slice_get-push_at}
-use Rattle.search_log.proofs.TableLaws.{latest-push, put_latest-cases}
+use Rattle.log_laws.proofs.TableLaws.{latest-push, put_latest-cases}
 use Rattle.search_log.specs.Counters.{LeastStand}
-use Rattle.search_log.proofs.CounterLaws.{progress_by_least, least_visited}
-use Rattle.search_log.proofs.NumberLaws.{counters_fit}
-use Rattle.search_log.proofs.TurnLaws.{past_with, extend_made}
-use Rattle.search_log.proofs.LogLaws.{Numbers, logged_made}
-use Rattle.search_log.proofs.SoundLaws.{sound_pop}
+use Rattle.log_laws.proofs.CounterLaws.{progress_by_least, least_visited}
+use Rattle.log_laws.proofs.NumberLaws.{counters_fit}
+use Rattle.log_laws.proofs.TurnLaws.{past_with, extend_made}
+use Rattle.log_laws.proofs.LogLaws.{Numbers, logged_made}
+use Rattle.log_laws.proofs.SoundLaws.{sound_pop}
 use Rattle.lazy_search.specs.declared.rows.LatestVisit.{LatestVisit}
 use Rattle.lazy_search.specs.declared.shape.Shape.{Shape}
 use Rattle.lazy_search.specs.declared.steps.Arrival.{Arrival}

@@ -35,7 +35,7 @@ fn initial_state(alloc: Global, task: &Task) -> Result<Vec<u32>, NoMemory>
     Ok(state)
 }
 
-// Adds the nodes with their greedy-necessary orders, from the initial state; what is kept of each.
+/// Adds the nodes with their greedy-necessary orders, from the initial state; what is kept of each.
 fn add_nodes_from(
     alloc: Global,
     task: &Task,
@@ -57,7 +57,7 @@ fn add_nodes_from(
     grow(alloc, task, start, givers, add, graph)
 }
 
-// Adds the nodes with their greedy-necessary orders; what is kept of each.
+/// Adds the nodes with their greedy-necessary orders; what is kept of each.
 fn add_nodes(alloc: Global, task: &Task, graph: &mut Graph) -> Result<Vec<Option<Single>>, NoMemory>
     requires { HasGoals task.now [] graph.old }
     ensures formed { IfOk result (λ singles. IsWellFormed task.now) }

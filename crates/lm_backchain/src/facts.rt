@@ -28,7 +28,7 @@ pub fn is_less(a: Fact, b: Fact) -> bool
     a.var < b.var || (a.var == b.var && a.val < b.val)
 }
 
-// Where a fact stands or would stand among ascending ones.
+/// Where a fact stands or would stand among ascending ones.
 fn place_of(facts: &[Fact], fact: Fact) -> usize
     ensures { IsPlaceFor facts.now fact result }
 {

@@ -20,7 +20,7 @@ use lama_num::{Estimate, NoMemory, Seq};
 use sas_task::{Effect, Fact, Operator, Task};
 use std::alloc::{AllocError, Global};
 
-// Whether a fact is reached, after the initial state was evaluated without a node's facts.
+/// Whether a fact is reached, after the initial state was evaluated without a node's facts.
 fn is_reached(add: &Add, fact: Fact) -> bool
     ensures { (parts : Parts) (node : List TheFact) → Knows parts node add.now →
         IsTrue (is_fact parts.variables fact) →
@@ -67,7 +67,7 @@ fn conditions(alloc: Global, operator: &Operator, effect: &Effect) -> Result<Seq
     Ok(Seq::from(conds))
 }
 
-// Adds the conditions of an effect of an operator, by their numbers, if it may be first.
+/// Adds the conditions of an effect of an operator, by their numbers, if it may be first.
 fn add_first(
     task: &Task,
     add: &Add,

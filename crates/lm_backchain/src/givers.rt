@@ -25,7 +25,7 @@ fn given_by(alloc: Global, operator: &Operator) -> Result<Vec<Fact>, AllocError>
         .collect(alloc)
 }
 
-// The numbers of the operators under each fact that they give.
+/// The numbers of the operators under each fact that they give.
 fn make_table(alloc: Global, task: &Task) -> Result<FactTable, NoMemory>
     ensures { IfOk result (FindsGivers task.now (length task.now.operators)) }
 {

@@ -51,7 +51,7 @@ fn number_of(added: Added) -> Option<u32>
     }
 }
 
-// Adds a node that another, at a place, is taken back to.
+/// Adds a node that another, at a place, is taken back to.
 fn add_before(
     task: &Task,
     givers: &Givers,

@@ -13,7 +13,7 @@ use bit_rows::has;
 use lama_num::NoMemory;
 use lm_graph::{Graph, Order};
 
-// Whether a node is one that isn't reached without another.
+/// Whether a node is one that isn't reached without another.
 fn is_late(before: &Single, after: &Option<Single>) -> bool
     ensures { (parts : Parts) (a b : List TheFact) → IsSingle parts a before.now →
         IsKept parts b after.now → a ≢ b → (IsTrue result ↔ GivesNatural parts a b) }
@@ -24,7 +24,7 @@ fn is_late(before: &Single, after: &Option<Single>) -> bool
     }
 }
 
-// Puts the natural order from a node to another, if the third rule gives it.
+/// Puts the natural order from a node to another, if the third rule gives it.
 fn order_pair(
     single: &Single,
     singles: &[Option<Single>],

@@ -20,7 +20,7 @@ fn lesser(least: Option<u32>, cost: u32) -> u32
     }
 }
 
-// The least cost of an operator of these.
+/// The least cost of an operator of these.
 fn least_cost(operators: &[Operator], ops: &[u32]) -> Option<u32>
     requires { (place : ℕ) → (op : ℕ) → slice_get ops.now place ≡ Some op →
         op < length operators.now }

@@ -27,7 +27,7 @@ pub struct Single {
     pub reached: Seq<u64>,
 }
 
-// The numbers with a finite cost.
+/// The numbers with a finite cost.
 fn finite_row(alloc: Global, costs: &[u32]) -> Result<Vec<u64>, NoMemory>
     ensures { IfOk result (λ row. (number : ℕ) →
         has_number row.items number ≡ is_finite (value_at costs.now number)) }

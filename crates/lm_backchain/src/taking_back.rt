@@ -45,7 +45,7 @@ fn put_shared(lists: &[Seq<Fact>], fact: Fact, facts: &mut Vec<Fact>) -> Result<
     Ok(())
 }
 
-// The facts that all lists have, ascending, of those of one.
+/// The facts that all lists have, ascending, of those of one.
 fn shared(alloc: Global, lists: &[Seq<Fact>], front: &[Fact]) -> Result<Vec<Fact>, AllocError>
     ensures { IfOk result (λ facts. (fact : TheFact) →
         has_fact facts.items fact ≡ (has_fact front.now fact && have_all lists.now fact)) }
@@ -123,8 +123,8 @@ fn collect_from(
     Ok(())
 }
 
-// The facts of a predicate that the lists ask for, ascending, or some of them if there are more
-// than four.
+/// The facts of a predicate that the lists ask for, ascending, or some of them if there are more
+/// than four.
 fn collect(
     alloc: Global,
     task: &Task,
@@ -174,7 +174,7 @@ fn comes_before(a: &[Fact], b: &[Fact]) -> bool {
     }
 }
 
-// Where a set goes among others, by its first fact: sets of different predicates share none.
+/// Where a set goes among others, by its first fact: sets of different predicates share none.
 fn place_of_set(sets: &[Seq<Fact>], set: &[Fact]) -> usize
     ensures { result ≤ length sets.now }
 {
@@ -194,7 +194,7 @@ fn put_set(sets: &mut Vec<Seq<Fact>>, set: Vec<Fact>) -> Result<(), NoMemory>
     Ok(())
 }
 
-// Adds the set of a predicate, if there is one.
+/// Adds the set of a predicate, if there is one.
 fn add_set(
     task: &Task,
     start: &[u32],
@@ -237,7 +237,7 @@ fn add_set_of(
     }
 }
 
-// The sets of the predicates of the facts of one list.
+/// The sets of the predicates of the facts of one list.
 fn sets_of(
     alloc: Global,
     task: &Task,
@@ -276,7 +276,7 @@ fn single_sets(alloc: Global, facts: &[Fact]) -> Result<Vec<Seq<Fact>>, AllocErr
     Ok(sets)
 }
 
-// What lists of conditions are taken back to: single facts, ascending, and then sets.
+/// What lists of conditions are taken back to: single facts, ascending, and then sets.
 fn back_from(
     alloc: Global,
     task: &Task,

@@ -16,7 +16,7 @@ pub struct FactTable {
     map: IndexMap<Fact, Seq<u32>>,
 }
 
-// Begins the numbers under a fact.
+/// Begins the numbers under a fact.
 fn begin(
     alloc: Global,
     map: &mut IndexMap<Fact, Seq<u32>>,
@@ -45,7 +45,7 @@ impl FactTable {
         }
     }
 
-    // Puts a number under a fact.
+    /// Puts a number under a fact.
     fn put(&mut self, fact: Fact, number: u32) -> Result<(), NoMemory>
         ensures { OnOk result (PutsNumber self.old self.new fact number) }
     {

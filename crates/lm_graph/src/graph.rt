@@ -50,7 +50,7 @@ impl Model for Graph {
         AreKeys g.sets.keys g.nodes.items };
 }
 
-// Makes a node also a goal, if so.
+/// Makes a node also a goal, if so.
 fn join_goal(nodes: &mut Vec<Node>, place: usize, goal: bool)
     requires { place < vec_len nodes.old }
     ensures { nodes.new.items ≡ with_goal nodes.old.items place goal }
@@ -61,7 +61,7 @@ fn join_goal(nodes: &mut Vec<Node>, place: usize, goal: bool)
     }
 }
 
-// Adds a node at the end, its facts to the table, and a row without an order.
+/// Adds a node at the end, its facts to the table, and a row without an order.
 fn push_node(
     nodes: &mut Vec<Node>,
     sets: &mut IndexSet<Vec<Fact>>,
@@ -98,6 +98,7 @@ impl Graph {
         }
     }
 
+    /// The nodes by their numbers.
     pub fn nodes(&self) -> &[Node]
         ensures nodes { result.now ≡ self.now.nodes }
         ensures graph { IsGraph self.now }
@@ -136,7 +137,7 @@ impl Graph {
         }
     }
 
-    // Adds a node that isn't there, unless there are as many as may be.
+    /// Adds a node that isn't there, unless there are as many as may be.
     fn add_new(&mut self, facts: &[Fact], least: Option<u32>, goal: bool) -> Result<Added, NoMemory>
         requires set { IsTrue (is_set facts.now) }
         requires absent { IsAbsent self.old.nodes facts.now }

@@ -24,7 +24,7 @@ fn mark(seen: &mut Vec<bool>, queue: &mut Vec<u32>, number: u32) -> Result<(), A
     Ok(())
 }
 
-// Marks the nodes that edges of at least some strength come from.
+/// Marks the nodes that edges of at least some strength come from.
 fn mark_row(
     row: &[Edge],
     weakest: Order,

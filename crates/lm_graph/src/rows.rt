@@ -34,6 +34,7 @@ impl Row {
         }
     }
 
+    /// The orders from a node, in the order in which they were added.
     pub fn edges(&self) -> &[Edge]
         ensures edges { result.now ≡ self.now }
         ensures ascending { IsAscending self.now }
@@ -41,7 +42,7 @@ impl Row {
         &self.edges
     }
 
-    // Where the edge of a node is, or where it would go.
+    /// Where the edge of a node is, or where it would go.
     fn search(&self, node: u32) -> Result<usize, usize>
         ensures found { IfOk result (IsAt self.now node) }
         ensures absent { IfErr result (IsGapFor self.now node) }
@@ -75,7 +76,7 @@ impl Row {
     }
 }
 
-// Puts an order of a node into the row of another.
+/// Puts an order of a node into the row of another.
 pub(crate) fn raise_at(
     rows: &mut Vec<Row>,
     other: u32,

@@ -44,7 +44,7 @@ fn empty_rows(alloc: Global, count: usize) -> Result<Vec<Row>, AllocError>
     Ok(rows)
 }
 
-// Puts the orders that lead to a node to the nodes that they come from.
+/// Puts the orders that lead to a node to the nodes that they come from.
 fn turn_row(rows: &mut Vec<Row>, row: &[Edge], after: u32) -> Result<(), AllocError>
     requires ascending { IsAscending row.now }
     requires within { (place : ℕ) (edge : TheEdge) → slice_get row.now place ≡ Some edge →
@@ -58,7 +58,7 @@ fn turn_row(rows: &mut Vec<Row>, row: &[Edge], after: u32) -> Result<(), AllocEr
     Ok(())
 }
 
-// The orders of rows, by the node that they come from.
+/// The orders of rows, by the node that they come from.
 fn turn(alloc: Global, rows: &[Row]) -> Result<Vec<Row>, AllocError>
     requires few { length rows.now ≤ MOST_NODES }
     requires within { AreWithin rows.now }

@@ -14,7 +14,7 @@ use lm_graph::{Graph, Order};
 use sas_task::Task;
 use std::alloc::Global;
 
-// Adds the reasonable order from a node to another, if there is one.
+/// Adds the reasonable order from a node to another, if there is one.
 fn order_pair(
     tables: &Tables,
     source: &Source,
@@ -36,7 +36,7 @@ fn order_pair(
     Ok(())
 }
 
-// Adds the reasonable orders from a node, if it is one fact.
+/// Adds the reasonable orders from a node, if it is one fact.
 fn order_from(tables: &Tables, graph: &mut Graph, node: u32) -> Result<(), NoMemory>
     requires node { node < length graph.old.nodes }
     requires long { AreLong graph.old tables.now }

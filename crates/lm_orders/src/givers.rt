@@ -75,6 +75,7 @@ pub(crate) fn index(alloc: Global, rows: &Rows<Fact>) -> Result<FactTable, NoMem
 }
 
 impl Givers {
+    /// The operators that give each fact of a task without conditions.
     pub fn new(alloc: Global, task: &Task) -> Result<Givers, NoMemory>
         ensures givers { IfOk result (AreGivers task.now) }
         ensures within { IfOk result AreWithin }

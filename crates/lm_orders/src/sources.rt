@@ -36,6 +36,7 @@ fn is_seen(marks: &[bool], node: u32) -> bool
 }
 
 impl Source {
+    /// A node, and what stands before it and behind it.
     pub fn new(tables: &Tables, graph: &Graph, node: u32) -> Result<Source, NoMemory>
         requires node { node < length graph.now.nodes }
         requires long { AreLong graph.now tables.now }

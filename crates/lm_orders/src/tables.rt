@@ -103,6 +103,7 @@ fn have_common(a: &[u32], b: &[u32]) -> bool
 }
 
 impl Tables {
+    /// What reasonable orders of a graph are found by.
     pub fn new(alloc: Global, task: &Task, graph: &Graph) -> Result<Tables, NoMemory>
         ensures long { IfOk result (AreLong graph.now) }
         ensures tables { IfOk result (AreTables task.now graph.now) }

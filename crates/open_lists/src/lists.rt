@@ -107,6 +107,7 @@ impl OpenLists {
         }
     }
 
+    /// Whether no list has an entry.
     pub fn is_empty(&self) -> bool
         ensures { IsTrue result ↔ ((k : ℕ) → Holds self.now k []) }
     {

@@ -11,7 +11,7 @@ use lama_num::NoMemory;
 use std::alloc::Global;
 use std::collections::BTreeMap;
 
-// Begins the queue of a key.
+/// Begins the queue of a key.
 fn begin(
     alloc: Global,
     map: &mut BTreeMap<u64, Queue>,

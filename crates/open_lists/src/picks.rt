@@ -6,7 +6,7 @@ ghost use Rattle.open_lists.specs.Lists.{TakesList, IsBestBefore, least_count_in
 
 use crate::list::OpenList;
 
-// Whether a list is empty.
+/// Whether a list is empty.
 fn is_blank(lists: &[OpenList], i: usize) -> bool
     requires { i < length lists.now }
     ensures { IsTrue result ↔ (least_count_in (slice_get lists.now i) ≡ 0) }
@@ -21,7 +21,7 @@ fn counter_of(lists: &[OpenList], i: usize) -> i64
     lists[i].counter
 }
 
-// The list to take from among the first ones and one more.
+/// The list to take from among the first ones and one more.
 fn better(lists: &[OpenList], i: usize, best: Option<usize>) -> Option<usize>
     requires within { i < length lists.now }
     requires so_far { IsBestBefore (λ m. least_count_in (slice_get lists.now m))

@@ -43,7 +43,7 @@ impl Queues {
         self.first.is_empty()
     }
 
-    // Puts operators under a key below the least.
+    /// Puts operators under a key below the least.
     fn push_ahead(&mut self, key: u64, parent: u64, operators: &[u32]) -> Result<(), NoMemory>
         requires below { key < self.old.least }
         requires some { operators.now ≢ [] }

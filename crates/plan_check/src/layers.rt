@@ -27,6 +27,7 @@ impl Model for Layer {
 }
 
 impl Layer {
+    /// A layer without a pair.
     pub fn new(alloc: Global) -> Layer
         ensures { result ≡ [] }
     {
@@ -35,6 +36,7 @@ impl Layer {
         }
     }
 
+    /// How many pairs of a state and a cost there are.
     pub fn len(&self) -> usize
         ensures { result ≡ length self.now }
     {

@@ -20,6 +20,7 @@ pub struct ByName<'a> {
 }
 
 impl<'a> ByName<'a> {
+    /// The operators of a task by their names.
     pub fn new(alloc: Global, operators: &'a [Operator]) -> Result<ByName<'a>, NoMemory>
         requires { length operators.now ≤ MOST_OPERATORS }
         ensures { IfOk result (λ by_name. IsIndexOf by_name operators.now) }

@@ -7,6 +7,7 @@ use crate::verdicts::PlanFault;
 use lama_num::NoMemory;
 use std::alloc::{AllocError, AllocFailed};
 
+/// Why a plan text is refused, or that memory is wanting.
 #[derive(Clone, Copy)]
 pub enum Refusal {
     Bad(PlanFault),

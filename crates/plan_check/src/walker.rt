@@ -28,6 +28,7 @@ pub struct Walker {
 }
 
 impl Walker {
+    /// What steps of a task are followed with, in the initial state.
     pub fn new(alloc: Global, task: &Task) -> Result<Walker, NoMemory>
         ensures { IfOk result (λ walker. IsWalker walker task.now) }
     {

@@ -29,6 +29,7 @@ impl Text {
         Ok(Text { text })
     }
 
+    /// The text itself.
     pub fn as_str(&self) -> &str
         ensures { result.now ≡ self.now }
     {

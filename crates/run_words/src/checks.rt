@@ -61,21 +61,21 @@ fn work(alloc: Global, given: &Given) -> Result<Chosen, WordsError>
     }
 }
 
-// Whether a portfolio is given, and no limit of time.
+/// Whether a portfolio is given, and no limit of time.
 fn is_limitless(given: &Given, limit: Option<u64>) -> bool
     ensures { result ≡ limitless_test (seen given.now) limit }
 {
     given.portfolio.is_some() && limit.is_none()
 }
 
-// Whether a file that is given has the name of one of the run's own.
+/// Whether a file that is given has the name of one of the run's own.
 fn clashes(base: &str, given: &Given) -> bool
     ensures { result ≡ clash_test base.now (seen given.now) }
 {
     is_own(base, given.task) || is_own(base, given.portfolio)
 }
 
-// The request of a line.
+/// The request of a line.
 #[tactic(auto, unfolding(crate::specs::Requests::request_by))]
 fn request(alloc: Global, given: &Given) -> Result<Request, WordsError>
     ensures exact { Gives refusal (λ request. request) result

@@ -20,7 +20,7 @@ fn error_of(error: &Error) -> WordsError
     }
 }
 
-// An option with a value.
+/// An option with a value.
 fn with_option<'a>(
     alloc: Global,
     command: Command<'a>,

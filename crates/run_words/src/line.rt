@@ -37,7 +37,7 @@ fn behind_dash(word: &[u8]) -> Option<&[u8]>
     if *first == b'-' { Some(rest) } else { None }
 }
 
-// A word that begins with a dash and isn't a name behind two of them.
+/// A word that begins with a dash and isn't a name behind two of them.
 fn is_stray(word: &[u8]) -> bool
     ensures { result ≡ stray_test word.now }
 {

@@ -36,7 +36,7 @@ fn up_to(most: u64, n: u64) -> Option<u64>
     if 1 <= n && n <= most { Some(n) } else { None }
 }
 
-// A decimal from 1 to `most`.
+/// A decimal from 1 to `most`.
 fn number_to(most: u64, text: &str) -> Option<u64>
     ensures same { result ≡ the_number most text.now }
     ensures within { IfSome result (λ n. (1 ≤ n) × (n ≤ most)) }
@@ -44,7 +44,7 @@ fn number_to(most: u64, text: &str) -> Option<u64>
     up_to(most, read_decimal(text.as_bytes())?)
 }
 
-// The seconds of a second, a minute and an hour.
+/// The seconds of a second, a minute and an hour.
 fn unit(letter: u8) -> Option<u64>
     ensures { result ≡ unit_of letter }
 {
@@ -56,7 +56,7 @@ fn unit(letter: u8) -> Option<u64>
     }
 }
 
-// A decimal of units, in seconds.
+/// A decimal of units, in seconds.
 fn seconds_in(digits: &[u8], unit: u64) -> Option<u64>
     ensures same { result
         ≡ option_and_then (the_number_up_to 1000000)

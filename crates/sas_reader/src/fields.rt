@@ -101,6 +101,7 @@ fn zero_or_one(text: &[u8]) -> Option<bool>
     }
 }
 
+/// Reads a line that is `0` or `1`.
 #[tactic(auto, unfolding(crate::specs::Walks::next_by, crate::specs::Reading::metric_line))]
 pub fn read_zero_or_one(cursor: &mut Cursor) -> Result<bool, SasError>
     ensures { Gives fault_of (λ b. (b, cursor.new)) result (next ZeroOrOne cursor.old) }

@@ -16,6 +16,7 @@ pub enum Section {
 }
 
 impl Section {
+    /// The line that begins the section.
     pub fn begin(self) -> &'static [u8]
         ensures { result.now ≡ begin_of self }
     {
@@ -31,6 +32,7 @@ impl Section {
         }
     }
 
+    /// The line that ends the section.
     pub fn end(self) -> &'static [u8]
         ensures { result.now ≡ end_of self }
     {

@@ -21,6 +21,7 @@ use sas_task::{MOST_VARIABLES, Variable, What};
 use std::alloc::Global;
 use text_lines::Cursor;
 
+/// Reads the section of the version, which is 3.
 #[tactic(auto, unfolding(crate::specs::TaskText::version))]
 pub fn read_version(cursor: &mut Cursor) -> Result<(), SasError>
     ensures { Gives fault_of (λ _. (tt, cursor.new)) result (walk the_version cursor.old) }

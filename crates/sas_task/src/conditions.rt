@@ -35,6 +35,7 @@ pub fn is_fact(variables: &[Variable], fact: Fact) -> bool
     }
 }
 
+/// Whether each of these is a fact of the variables.
 pub fn are_facts(variables: &[Variable], facts: &[Fact]) -> bool
     ensures { result ≡ list_all (fact_test variables.now) facts.now }
 {

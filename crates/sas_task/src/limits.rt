@@ -11,18 +11,22 @@ use crate::contents::{Effect, Operator, Rule, Variable};
 use crate::refusals::{TaskError, What};
 use lama_num::Seq;
 
+/// The most variables, and the most values of one.
 pub const MOST_VARIABLES: usize = 1_048_576;
 
 /// The most values of all variables together.
 pub const MOST_FACTS: usize = 4_194_304;
 
+/// The most operators.
 pub const MOST_OPERATORS: usize = 4_194_304;
 
+/// The most rules.
 pub const MOST_RULES: usize = 4_194_304;
 
 /// The most values of one variable, mutex groups, effects of one operator, and facts of one list.
 pub const MOST_LISTED: usize = 1_048_576;
 
+/// The highest number of an axiom layer.
 pub const HIGHEST_LAYER: u32 = 1_048_576;
 
 /// The highest cost of an operator.
@@ -44,6 +48,7 @@ pub fn refuse(what: What, count: Option<usize>) -> Result<(), TaskError>
     }
 }
 
+/// A count, if it is above the limit.
 pub fn above(most: usize, count: usize) -> Option<usize>
     ensures { result ≡ the_above most (count ∷ []) }
 {
@@ -57,6 +62,7 @@ pub fn first_of(first: Option<usize>, second: Option<usize>) -> Option<usize>
     first.or(second)
 }
 
+/// The first range that is above the limit.
 pub fn ranges_above(variables: &[Variable]) -> Option<usize>
     ensures { result ≡ the_above most_listed (map (λ v. length v.values) variables.now) }
 {
@@ -68,6 +74,7 @@ pub fn ranges_above(variables: &[Variable]) -> Option<usize>
     None
 }
 
+/// The first axiom layer that is above the limit.
 pub fn layers_above(variables: &[Variable]) -> Option<usize>
     ensures { result ≡ the_above highest_layer (filter_map (λ v. v.layer) variables.now) }
 {
@@ -105,6 +112,7 @@ pub fn lists_above<T>(lists: &[Seq<T>], most: usize) -> Option<usize>
     None
 }
 
+/// The first count of conditions of an effect that is above the limit.
 pub fn effect_conditions_above(effects: &[Effect]) -> Option<usize>
     ensures { result ≡ the_above most_listed (map (λ e. length e.conds) effects.now) }
 {
@@ -116,6 +124,7 @@ pub fn effect_conditions_above(effects: &[Effect]) -> Option<usize>
     None
 }
 
+/// The first count of conditions of a rule that is above the limit.
 pub fn rule_conditions_above(rules: &[Rule]) -> Option<usize>
     ensures { result ≡ the_above most_listed (map (λ r. length r.conds) rules.now) }
 {
@@ -127,6 +136,7 @@ pub fn rule_conditions_above(rules: &[Rule]) -> Option<usize>
     None
 }
 
+/// The first count of effects of an operator that is above the limit.
 pub fn effects_above(operators: &[Operator]) -> Option<usize>
     ensures { result ≡ the_above most_listed (map (λ o. length o.effects) operators.now) }
 {
@@ -138,6 +148,7 @@ pub fn effects_above(operators: &[Operator]) -> Option<usize>
     None
 }
 
+/// The first cost that is above the limit.
 pub fn costs_above(operators: &[Operator]) -> Option<usize>
     ensures { result ≡ the_above highest_cost (map (λ o. o.cost) operators.now) }
 {

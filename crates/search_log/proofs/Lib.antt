@@ -1,17 +1,1 @@
-pub mod ColumnLaws
-pub mod AssignmentLaws
-pub mod ClockLaws
-pub mod CountLaws
-pub mod CounterLaws
-pub mod CoverLaws
-pub mod Elements
-pub mod LogLaws
-pub mod NumberLaws
-pub mod PendingLaws
-pub mod RoomLaws
-pub mod Sound
-pub mod SoundLaws
-pub mod SpaceLaws
-pub mod TableLaws
-pub mod TurnLaws
-pub mod WaitingLaws
+mod ColumnLaws

@@ -10,5 +10,4 @@ pub mod Clocks
 pub mod Spaces
 pub mod Guided
 pub mod Rooms
-pub mod Rivals
 pub mod Counters

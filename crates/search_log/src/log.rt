@@ -37,7 +37,7 @@ impl Model for Log {
         (length l.visits.items < 2 ^ 32) };
 }
 
-// Adds a visit to both columns, or to none.
+/// Adds a visit to both columns, or to none.
 fn add_visit(
     visits: &mut Vec<VisitRow>,
     preferred: &mut Rows<u32>,

@@ -28,7 +28,7 @@ impl Model for Space {
         (length s.costs.items < 2 ^ 32) };
 }
 
-// Adds a state and its cost to both columns, or to none.
+/// Adds a state and its cost to both columns, or to none.
 fn add_member(
     states: &mut Rows<u32>,
     costs: &mut Vec<u64>,
@@ -75,6 +75,7 @@ impl Space {
         self.costs.len() as u32
     }
 
+    /// Whether it has no state.
     pub fn is_empty(&self) -> bool
         ensures { IsTrue result ↔ (self.now ≡ []) }
     {

@@ -25,7 +25,7 @@ impl<const N: usize> Model for Rows<N> {
     ghost invariant = { λ r. N < 1024 };
 }
 
-// The words as an array.
+/// The words as an array.
 #[inline(always)]
 fn array_of<const N: usize>(words: &[u64]) -> [u64; N]
     requires few { N < 1024 }
@@ -39,7 +39,7 @@ fn array_of<const N: usize>(words: &[u64]) -> [u64; N]
     array
 }
 
-// Adds a state where it isn't there.
+/// Adds a state where it isn't there.
 #[inline(always)]
 fn add<const N: usize>(
     set: &mut IndexSet<[u64; N]>,
@@ -61,7 +61,7 @@ fn add<const N: usize>(
     Ok(Interned::Known(index as u32))
 }
 
-// Looks for a state where no other may be added.
+/// Looks for a state where no other may be added.
 fn find<const N: usize>(set: &IndexSet<[u64; N]>, most: u32, words: [u64; N]) -> Interned
     requires small { N < 1024 }
     requires full { length set.now.keys ≡ most }

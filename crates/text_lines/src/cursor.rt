@@ -27,6 +27,7 @@ impl<'a> Model for Cursor<'a> {
 }
 
 impl<'a> Cursor<'a> {
+    /// A cursor before the first line of a text.
     pub fn new(bytes: &'a [u8]) -> Cursor<'a>
         ensures { result ≡ record { left = lines_of bytes.now; line = 1 } }
     {

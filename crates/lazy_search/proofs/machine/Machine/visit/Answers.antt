@@ -3,8 +3,8 @@ use Rattle.std.specs.Prelude.{Vec, filter, not, ◌&&◌, IfSome}
 use Rattle.std.proofs.lemmas.List.{length-append}
 use Rattle.open_lists.specs.declared.entry.Popped.{Popped}
 use Rattle.search_log.specs.declared.turns.PopResult.TheVariants.{Known, Dead, Goal, Visited, Again}
-use Rattle.search_log.proofs.TurnLaws.{past_with}
-use Rattle.search_log.proofs.LogLaws.{Numbers}
+use Rattle.log_laws.proofs.TurnLaws.{past_with}
+use Rattle.log_laws.proofs.LogLaws.{Numbers}
 use Rattle.lazy_search.proofs.LookUps.{to_state, rows_count}
 use Rattle.lazy_search.proofs.NextPops.{lists_popped, list_small}
 use Rattle.std.specs.declared.alloc.Global.{Global}
@@ -13,7 +13,7 @@ use Rattle.sas_task.specs.States.{IsState}
 use Rattle.relaxed_task.specs.Reached.{IsDead}
 use Rattle.guide.specs.Operators.{applicable_operators, is_among}
 use Rattle.search_log.specs.declared.turns.Pop.{Pop}
-use Rattle.search_log.proofs.TableLaws.{id_within}
+use Rattle.log_laws.proofs.TableLaws.{id_within}
 use Rattle.lazy_search.specs.declared.states.States.{States}
 use Rattle.lazy_search.specs.declared.machine.Machine.{Machine}
 use Rattle.lazy_search.specs.States.{AreFor}

@@ -1,5 +1,0 @@
-use Rattle.search_log.proofs.SpaceLaws.{goal_plan}
-use Rattle.search_log.proofs.laws.goal_visits_have_plans.Goals as goal
-
-pub returns : goal.returns
-returns c phase visits pops n is lawful ends = goal_plan phase visits pops n is lawful ends

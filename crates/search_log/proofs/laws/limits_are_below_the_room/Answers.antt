@@ -1,8 +1,0 @@
-use Rattle.search_log.proofs.RoomLaws.{full_below_room, pops_below_room}
-use Rattle.search_log.proofs.laws.limits_are_below_the_room.Goals as goal
-
-pub returns-clause-states : goal.returns-clause-states
-returns-clause-states c phase visits pops is l ends = full_below_room phase visits pops is l ends
-
-pub returns-clause-pops : goal.returns-clause-pops
-returns-clause-pops c phase visits pops is l ends closed = pops_below_room phase visits pops is l ends closed
