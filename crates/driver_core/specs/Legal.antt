@@ -15,16 +15,16 @@ moment_in (Candidate round entry cost) = None
 moment_in (Ended round entry part last) = None
 moment_in (OutOfTime moment) = Some moment
 
--- A moment isn't before the start, nor before an earlier one.
-abbrev pub IsTimely : Setting → List Event → ℕ → Type 0
-IsTimely setting past moment = All (λ earlier. earlier ≤ moment) (setting.start ∷ filter_map moment_in past)
+-- Moments never fall.
+abbrev pub IsTimely : List Event → ℕ → Type 0
+IsTimely past moment = All (λ earlier. earlier ≤ moment) (filter_map moment_in past)
 
 -- A turn begins once, where its entry runs in its round, and once all turns of the rounds before have ended.
 pub record MayBegin (setting : Setting) (past : List Event) (turn : Turn) (moment : ℕ) : Type 0 where
   pub runs : runs_in setting past turn.round turn.entry ≡ true
   pub earlier : (round : ℕ) → round < turn.round → is_ended setting past round ≡ true
   pub new : has_begun past turn ≡ false
-  pub timely : IsTimely setting past moment
+  pub timely : IsTimely past moment
   pub going : has_stopped setting past ≡ false
 
 -- Its candidates come after it began and before it ends.
@@ -35,7 +35,7 @@ pub record MayOffer (setting : Setting) (past : List Event) (turn : Turn) : Type
 -- The run is out of time once its limit has passed.
 pub record MayRunOut (setting : Setting) (past : List Event) (moment : ℕ) : Type 0 where
   pub passed : IsSomeAnd setting.limit (λ limit. setting.start + limit ≤ moment)
-  pub timely : IsTimely setting past moment
+  pub timely : IsTimely past moment
   pub going : has_stopped setting past ≡ false
 
 -- After these events this one may come. After a Stop only the ends of turns that are on may.

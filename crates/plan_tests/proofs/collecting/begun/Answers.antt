@@ -22,7 +22,7 @@ first core next is same stands step = record {
     runs = refl;
     earlier = λ round low. none_before_first (record { shares = 1 ∷ []; start = 0; limit = None; bound = None; single = false; rounds = false }) [] round low;
     new = refl;
-    timely = All-cons (λ earlier. earlier ≤ 0) 0 [] (omega arith) (All-nil (λ earlier. earlier ≤ 0));
+    timely = All-nil (λ earlier. earlier ≤ 0);
     going = refl;
   }));
   on = record { begun = refl; unended = refl };
