@@ -110,11 +110,11 @@ dead_exactly parts kind state costs formed each = (
 
 -- an effect of some that fires in the state and gives the fact
 pub record Source (state : List ℕ) (effects : List Effect) (f : Fact) : Type 0 where
-  effect : Effect
-  place : ℕ
-  at : slice_get effects place ≡ Some effect
-  fires : fires state effect ≡ true
-  gives : effect.fact ≡ f
+  pub effect : Effect
+  pub place : ℕ
+  pub at : slice_get effects place ≡ Some effect
+  pub fires : fires state effect ≡ true
+  pub gives : effect.fact ≡ f
 
 -- a value is kept, or the effect that is the last to give one is its source
 last_source : (state : List ℕ) (effects : List Effect) (var value x : ℕ) → last_or value (given state effects var) ≡ x → (value ≡ x) ⊎ Source state effects (fact_at var x)
