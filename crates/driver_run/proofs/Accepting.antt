@@ -3,7 +3,8 @@ use Rattle.std.proofs.Common.{◌≡◌, ◌≢◌, ◌∙◌, sym, ap, subst, r
 use Rattle.std.specs.Prelude.{codes, is_some, not, ◌&&◌}
 use Rattle.std.specs.FinMap.{get}
 use Rattle.lama_host.specs.Folder.{Told, Rose}
-use Rattle.lama_host.specs.Steps.{Stays}
+use Rattle.lama_host.specs.Steps.{Leaves, Stays}
+use Rattle.plan_manager.specs.Family.{SameOutside}
 use Rattle.lama_num.specs.Gives.{◌>>=◌}
 use Rattle.sas_task.specs.declared.contents.Parts.{Parts}
 use Rattle.conf_text.specs.declared.faults.ConfBad.{ConfBad}
@@ -100,9 +101,9 @@ same_request asked other request is at = let k : ◌≡◌ {A = Result Request W
 
 -- accepted words, and a report
 accepted_run : (words : List (List ℕ)) (asked : Request) (before now : Told) (last_before last_now : ℕ) (answers_before answers_now : Option (List ℕ)) (report : Report) → request_of words ≡ Ok asked →
-    IsRunOn asked.aim asked.task before now last_before last_now answers_before answers_now report → Stays before now →
+    IsRunOn asked.aim asked.task before now last_before last_now answers_before answers_now report → Stays before now → Leaves before now (SameOutside base_name) →
     IsRun words before now last_before last_now answers_before answers_now (ended.Done report)
-accepted_run words asked before now last_before last_now answers_before answers_now report is on stays =
+accepted_run words asked before now last_before last_now answers_before answers_now report is on stays outside =
     let same = λ (other : Request). same_request asked other (request_of words) is in
     record {
       refused = λ fault line. absurd (no_fault words asked fault is line);
@@ -119,13 +120,14 @@ accepted_run words asked before now last_before last_now answers_before answers_
       complete = λ other at. subst (λ (r : Request). Completes r.aim report.task report) (same other at) on.told.completes;
       code = code_told asked.aim report.task report on.turns on.told.tells;
       fault = on.fault;
+      outside = outside;
       stays = stays;
     }
 
 -- accepted words, and want of memory
-unfinished_run : (words : List (List ℕ)) (asked : Request) (before now : Told) (last_before last_now : ℕ) (answers_before answers_now : Option (List ℕ)) → request_of words ≡ Ok asked → Stays before now →
+unfinished_run : (words : List (List ℕ)) (asked : Request) (before now : Told) (last_before last_now : ℕ) (answers_before answers_now : Option (List ℕ)) → request_of words ≡ Ok asked → Stays before now → Leaves before now (SameOutside base_name) →
     IsRun words before now last_before last_now answers_before answers_now ended.NoMemory
-unfinished_run words asked before now last_before last_now answers_before answers_now is stays = record {
+unfinished_run words asked before now last_before last_now answers_before answers_now is stays outside = record {
   refused = λ fault line. absurd (no_fault words asked fault is line);
   no_config = λ bad at. absurd (not_bad asked (why.Config bad) (request_of words) is at);
   accepted = λ other at. tt;
@@ -138,6 +140,7 @@ unfinished_run words asked before now last_before last_now answers_before answer
   complete = λ other at. tt;
   code = tt;
   fault = tt;
+  outside = outside;
   stays = stays;
 }
 
@@ -156,8 +159,8 @@ same_bad bad other request is at =
     cc
 
 refused_config : (words : List (List ℕ)) (bad : ConfBad) (before now : Told) (last_before last_now : ℕ) (answers_before answers_now : Option (List ℕ)) (result : Ended) → request_of words ≡ Err (why.Config bad) → now ≡ before →
-    IfDone result (λ report. report ≡ refusal (why.Config bad)) → Stays before now → IsRun words before now last_before last_now answers_before answers_now result
-refused_config words bad before now last_before last_now answers_before answers_now result is same told stays =
+    IfDone result (λ report. report ≡ refusal (why.Config bad)) → Stays before now → Leaves before now (SameOutside base_name) → IsRun words before now last_before last_now answers_before answers_now result
+refused_config words bad before now last_before last_now answers_before answers_now result is same told stays outside =
     let none = λ (other : Request) (at : request_of words ≡ Ok other). not_bad other (why.Config bad) (request_of words) at is in
     record {
       refused = λ fault line. absurd (other_fault words bad fault is line);
@@ -172,6 +175,7 @@ refused_config words bad before now last_before last_now answers_before answers_
       complete = λ other at. absurd (none other at);
       code = done_so (λ report. report.code ≡ code_of report.why report.kept report.ends) result bad told refl;
       fault = done_so (λ report. report.why ≡ why.Fault → Rose before.faults now.faults) result bad told (λ e. let k : why.Config bad ≡ why.Fault = e in cc);
+      outside = outside;
       stays = stays;
     }
   where
@@ -183,16 +187,16 @@ refused_config words bad before now last_before last_now answers_before answers_
 pub run_on_line : (words : List (List ℕ)) (line : Line) (before now : Told) (last_before last_now : ℕ) (answers_before answers_now : Option (List ℕ)) (result : Ended) → Ok line ≡ line_of words →
     ((bad : ConfBad) → chosen_of line.work ≡ Err bad → (now ≡ before) × IfDone result (λ report. report ≡ refusal (why.Config bad))) →
     ((chosen : Chosen) → chosen_of line.work ≡ Ok chosen → IfDone result (IsRunOn (record { chosen = chosen; bound = line.bound }) line.task before now last_before last_now answers_before answers_now)) →
-    Stays before now → IsRun words before now last_before last_now answers_before answers_now result
-run_on_line words line before now last_before last_now answers_before answers_now result is refused accepted stays = by_chosen (chosen_of line.work) refl
+    Stays before now → Leaves before now (SameOutside base_name) → IsRun words before now last_before last_now answers_before answers_now result
+run_on_line words line before now last_before last_now answers_before answers_now result is refused accepted stays outside = by_chosen (chosen_of line.work) refl
   where
     by_report : (chosen : Chosen) (result : Ended) → request_of words ≡ Ok (record { task = line.task; aim = record { chosen = chosen; bound = line.bound } }) →
         IfDone result (IsRunOn (record { chosen = chosen; bound = line.bound }) line.task before now last_before last_now answers_before answers_now) → IsRun words before now last_before last_now answers_before answers_now result
     by_report chosen (ended.Done report) asks on =
-        accepted_run words (record { task = line.task; aim = record { chosen = chosen; bound = line.bound } }) before now last_before last_now answers_before answers_now report asks on stays
+        accepted_run words (record { task = line.task; aim = record { chosen = chosen; bound = line.bound } }) before now last_before last_now answers_before answers_now report asks on stays outside
     by_report chosen ended.NoMemory asks on =
-        unfinished_run words (record { task = line.task; aim = record { chosen = chosen; bound = line.bound } }) before now last_before last_now answers_before answers_now asks stays
+        unfinished_run words (record { task = line.task; aim = record { chosen = chosen; bound = line.bound } }) before now last_before last_now answers_before answers_now asks stays outside
 
     by_chosen : (chosen : Result Chosen ConfBad) → chosen_of line.work ≡ chosen → IsRun words before now last_before last_now answers_before answers_now result
     by_chosen (Ok chosen) at = by_report chosen result (ap request_in (sym is) ∙ ap (request_by line) at) (accepted chosen at)
-    by_chosen (Err bad) at = let r = refused bad at in refused_config words bad before now last_before last_now answers_before answers_now result (ap request_in (sym is) ∙ ap (request_by line) at) r.0 r.1 stays
+    by_chosen (Err bad) at = let r = refused bad at in refused_config words bad before now last_before last_now answers_before answers_now result (ap request_in (sym is) ∙ ap (request_by line) at) r.0 r.1 stays outside

@@ -26,7 +26,8 @@ use Rattle.driver_run.specs.declared.progress.Trail.{Trail}
 use Rattle.driver_run.specs.Searching.{run_by, turns_on, begun_with, standing_at, place_of, CameTo, IsSearching, HasKept, HasPassed}
 use Rattle.driver_run.proofs.Turning.{own_offer, the_turn, is_on, plans_more}
 use Rattle.driver_run.proofs.Going.{own_plan, kept_more}
-use Rattle.driver_run.proofs.Phasing.{went_plan, went_so}
+use Rattle.driver_run.proofs.Phasing.{went_so}
+use Rattle.run_report.proofs.PhaseSteps.{went_plan}
 use Rattle.driver_run.proofs.Stepping.{AtPhase, at_phase, FoundPlan, found_plan, bound_after, same_standing, pops_more}
 
 -- the turn is on, as keeping a plan wants it

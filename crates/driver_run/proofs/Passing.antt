@@ -21,7 +21,8 @@ use Rattle.driver_run.specs.declared.progress.Progress.{Progress}
 use Rattle.driver_run.specs.declared.progress.Stop.{Stop}
 use Rattle.driver_run.specs.declared.progress.Trail.{Trail}
 use Rattle.driver_run.specs.Searching.{run_by, turns_on, begun_with, standing_at, place_of, CameTo, IsSearching, HasPassed, HasCounted}
-use Rattle.driver_run.proofs.Phasing.{went_space, went_so}
+use Rattle.driver_run.proofs.Phasing.{went_so}
+use Rattle.run_report.proofs.PhaseSteps.{went_space}
 use Rattle.driver_run.proofs.Stepping.{AtPhase, at_phase, HasLog, few_in, same_standing, pops_more}
 use Rattle.driver_run.proofs.Closing.{ends_at}
 

@@ -13,7 +13,8 @@ use Rattle.run_report.specs.Clocks.{AsksClock}
 use Rattle.run_report.specs.Events.{code_of, IsRunToEnd}
 use Rattle.run_report.specs.Plans.{KeepsPlans}
 use Rattle.run_report.specs.Tells.{Turns}
-use Rattle.driver_run.specs.Words.{line_of}
+use Rattle.plan_manager.specs.Family.{SameOutside}
+use Rattle.driver_run.specs.Words.{line_of, base_name}
 use Rattle.driver_run.specs.Requests.{Request, request_of, is_many}
 use Rattle.driver_run.specs.Reports.{IfDone, refusal, IsAccepted, TellsTask, Tells, Completes, task_in}
 use Rattle.driver_run.specs.Leaves.{LeavesPlans}
@@ -33,17 +34,19 @@ pub record IsRun (words : List (List ℕ)) (before now : Told) (last_before last
   pub many : (request : Request) → request_of words ≡ Ok request → IfDone ended (λ report. report.many ≡ is_many request.aim.chosen)
   -- each kept plan is a plan of the task, with its cost, and they are cheaper and cheaper, whatever ended the run
   pub plans : (request : Request) → request_of words ≡ Ok request → IfDone ended (λ report. KeepsPlans report.task request.aim.bound report.kept)
-  -- where no call failed, the folder holds just the plans
+  -- Where no call failed, the folder holds just the plans. Where memory was wanting, nothing is said of the family here.
   pub files : (request : Request) → request_of words ≡ Ok request → IfDone ended (λ report. report.why ≢ Fault → Leaves before now (LeavesPlans report.task report.many report.kept))
   -- The report tells the turns of a run: the lists of plans, candidates and ends; the events, which are legal, with what was kept and the
   -- code; how each search went and ended, and what that shows. The clock is asked as the run begins and as each turn does.
   pub told : (request : Request) → request_of words ≡ Ok request → IfDone ended (λ report. (turns : Turns)
       × Tells request.aim report.task report turns × AsksClock last_before last_now answers_before answers_now report turns)
-  -- without a bound, and where its first phase has room, it finds a plan or that there is none
+  -- without a bound, where its first phase has room, and unless a call of the folder failed, it finds a plan or that there is none
   pub complete : (request : Request) → request_of words ≡ Ok request → IfDone ended (λ report. Completes request.aim report.task report)
   -- the code is a function of what the report tells
   pub code : IfDone ended (λ report. report.code ≡ code_of report.why report.kept report.ends)
   -- a fault comes only from a call that failed
   pub fault : IfDone ended (λ report. report.why ≡ Fault → Rose before.faults now.faults)
+  -- whatever ended the run, names outside the family and base.part hold what they held
+  pub outside : Leaves before now (SameOutside base_name)
   -- no child was started, what the host tells it still tells, and it runs as many children as before
   pub stays : Stays before now

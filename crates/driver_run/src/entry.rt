@@ -108,8 +108,7 @@ fn search_by<F: Folder, C: Clock>(
     ensures stays { Stays (F.told folder.old) (F.told folder.new) }
     ensures failed { result ≡ Err Stop.Fault
         → Rose (F.told folder.old).faults (F.told folder.new).faults }
-    ensures outside { OnOk result
-        (Leaves (F.told folder.old) (F.told folder.new) (SameOutside base_name)) }
+    ensures outside { Leaves (F.told folder.old) (F.told folder.new) (SameOutside base_name) }
     ensures later { C.last clock.old ≤ C.last clock.new }
     ensures asks { AsksNoMore (search_memory result)
         (C.answers clock.old) (C.answers clock.new) }
@@ -163,8 +162,7 @@ fn search<F: Folder, C: Clock>(
     ensures stays { Stays (F.told folder.old) (F.told folder.new) }
     ensures failed { result ≡ Err Stop.Fault
         → Rose (F.told folder.old).faults (F.told folder.new).faults }
-    ensures outside { OnOk result
-        (Leaves (F.told folder.old) (F.told folder.new) (SameOutside base_name)) }
+    ensures outside { Leaves (F.told folder.old) (F.told folder.new) (SameOutside base_name) }
     ensures later { C.last clock.old ≤ C.last clock.new }
     ensures asks { AsksNoMore (search_memory result)
         (C.answers clock.old) (C.answers clock.new) }
@@ -207,8 +205,7 @@ pub fn run_entry<F: Folder, C: Clock>(
     ensures stays { Stays (F.told folder.old) (F.told folder.new) }
     ensures failed { result ≡ Err Stop.Fault
         → Rose (F.told folder.old).faults (F.told folder.new).faults }
-    ensures outside { OnOk result
-        (Leaves (F.told folder.old) (F.told folder.new) (SameOutside base_name)) }
+    ensures outside { Leaves (F.told folder.old) (F.told folder.new) (SameOutside base_name) }
     ensures setting { progress.new.core.setting ≡ progress.old.core.setting }
     ensures one { many ≡ false → length progress.new.kept.items ≤ 1 }
     ensures ran { HasRunTo result

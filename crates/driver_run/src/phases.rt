@@ -41,8 +41,7 @@ fn keep_plan<F: Folder>(
     ensures stays { Stays (F.told folder.old) (F.told folder.new) }
     ensures failed { result ≡ Err ReadError.Failed
         → Rose (F.told folder.old).faults (F.told folder.new).faults }
-    ensures outside { OnOk result
-        (Leaves (F.told folder.old) (F.told folder.new) (SameOutside base_name)) }
+    ensures outside { Leaves (F.told folder.old) (F.told folder.new) (SameOutside base_name) }
     ensures setting { progress.new.core.setting ≡ progress.old.core.setting }
     ensures ends { progress.new.ends ≡ progress.old.ends }
     ensures same { OnErr result (HasSame progress.old progress.new) }
@@ -90,8 +89,7 @@ fn take_plan<F: Folder>(
     ensures stays { Stays (F.told folder.old) (F.told folder.new) }
     ensures failed { result ≡ Err Stop.Fault
         → Rose (F.told folder.old).faults (F.told folder.new).faults }
-    ensures outside { OnOk result
-        (Leaves (F.told folder.old) (F.told folder.new) (SameOutside base_name)) }
+    ensures outside { Leaves (F.told folder.old) (F.told folder.new) (SameOutside base_name) }
     ensures setting { progress.new.core.setting ≡ progress.old.core.setting }
     ensures ends { progress.new.ends ≡ progress.old.ends }
     ensures began { trail.new.began ≡ trail.old.began }
@@ -214,8 +212,7 @@ fn take_phase<F: Folder, C: Clock>(
     ensures stays { Stays (F.told folder.old) (F.told folder.new) }
     ensures failed { result ≡ Err Stop.Fault
         → Rose (F.told folder.old).faults (F.told folder.new).faults }
-    ensures outside { OnOk result
-        (Leaves (F.told folder.old) (F.told folder.new) (SameOutside base_name)) }
+    ensures outside { Leaves (F.told folder.old) (F.told folder.new) (SameOutside base_name) }
     ensures later { C.last clock.old ≤ C.last clock.new }
     ensures asks { AsksNoMore (phase_memory result)
         (C.answers clock.old) (C.answers clock.new) }
@@ -281,8 +278,7 @@ pub fn take_phases<F: Folder, C: Clock>(
     ensures stays { Stays (F.told folder.old) (F.told folder.new) }
     ensures failed { result ≡ Err Stop.Fault
         → Rose (F.told folder.old).faults (F.told folder.new).faults }
-    ensures outside { OnOk result
-        (Leaves (F.told folder.old) (F.told folder.new) (SameOutside base_name)) }
+    ensures outside { Leaves (F.told folder.old) (F.told folder.new) (SameOutside base_name) }
     ensures later { C.last clock.old ≤ C.last clock.new }
     ensures asks { AsksNoMore (search_memory result)
         (C.answers clock.old) (C.answers clock.new) }

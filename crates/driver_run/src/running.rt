@@ -4,6 +4,7 @@ ghost use Rattle.std.specs.Prelude.{map, string_bytes, false, length};
 ghost use Rattle.std.specs.FinMap.{get};
 ghost use Rattle.lama_host.specs.Folder.{WhereTold, Rose};
 ghost use Rattle.plan_manager.specs.Clearing.{IsCleared};
+ghost use Rattle.plan_manager.specs.Family.{SameOutside};
 ghost use Rattle.lama_host.specs.Steps.{Leaves, Stays};
 ghost use Rattle.conf_text.specs.Accepted.{IsConfig};
 ghost use Rattle.conf_text.specs.declared.config.Config.{Config as TheConfig};
@@ -177,6 +178,7 @@ fn finish<F: Folder>(
     requires one { many ≡ false → length progress.kept.items ≤ 1 }
     requires ran { (config : TheConfig) × (turn : ToldTurn)
         × HasRun (run_by task.now config progress.core.setting) progress turn }
+    ensures outside { Leaves (F.told folder.old) (F.told folder.new) (SameOutside base_name) }
     ensures stays { Stays (F.told folder.old) (F.told folder.new) }
     ensures fault { result.why ≡ Why.Fault
         → Rose (F.told folder.old).faults (F.told folder.new).faults }
@@ -215,6 +217,7 @@ fn run_on<F: Folder, C: Clock>(
     requires many { many ≡ config.now.iterated }
     requires fresh { IsFresh progress }
     requires start { progress.core.setting.start ≤ C.last clock.old }
+    ensures outside { Leaves (F.told folder.old) (F.told folder.new) (SameOutside base_name) }
     ensures stays { Stays (F.told folder.old) (F.told folder.new) }
     ensures fault { IfOk result (λ left. left.why ≡ Why.Fault
         → Rose (F.told folder.old).faults (F.told folder.new).faults) }
@@ -259,6 +262,7 @@ fn run_config<F: Folder, C: Clock>(
     requires config { IsConfig config }
     requires many { many ≡ config.iterated }
     requires start { start ≤ C.last clock.old }
+    ensures outside { Leaves (F.told folder.old) (F.told folder.new) (SameOutside base_name) }
     ensures stays { Stays (F.told folder.old) (F.told folder.new) }
     ensures fault { IfOk result (λ left. left.why ≡ Why.Fault
         → Rose (F.told folder.old).faults (F.told folder.new).faults) }
@@ -288,6 +292,7 @@ fn run_aim<F: Folder, C: Clock>(
     requires base { base.now ≡ base_name }
     requires chosen { IsChosen aim.chosen }
     requires start { start ≤ C.last clock.old }
+    ensures outside { Leaves (F.told folder.old) (F.told folder.new) (SameOutside base_name) }
     ensures stays { Stays (F.told folder.old) (F.told folder.new) }
     ensures fault { IfOk result (λ left. left.why ≡ Why.Fault
         → Rose (F.told folder.old).faults (F.told folder.new).faults) }
@@ -320,6 +325,7 @@ fn run_on_task<F: Folder, C: Clock>(
     requires base { base.now ≡ base_name }
     requires chosen { IsChosen aim.chosen }
     requires start { start ≤ C.last clock.old }
+    ensures outside { Leaves (F.told folder.old) (F.told folder.new) (SameOutside base_name) }
     ensures stays { Stays (F.told folder.old) (F.told folder.new) }
     ensures fault { IfOk result (λ report. report.why ≡ Why.Fault
         → Rose (F.told folder.old).faults (F.told folder.new).faults) }
@@ -357,6 +363,7 @@ fn run_file<F: Folder, C: Clock>(
         (λ _ files. IsCleared base_name files) }
     requires chosen { IsChosen aim.chosen }
     requires start { start ≤ C.last clock.old }
+    ensures outside { Leaves (F.told folder.old) (F.told folder.new) (SameOutside base_name) }
     ensures stays { Stays (F.told folder.old) (F.told folder.new) }
     ensures fault { IfOk result (λ report. report.why ≡ Why.Fault
         → Rose (F.told folder.old).faults (F.told folder.new).faults) }
@@ -404,6 +411,7 @@ fn run_accepted<F: Folder, C: Clock>(
     requires idle { (F.told folder.old).busy ≡ [] }
     requires name { is_own_name base_name name.now ≡ false }
     requires chosen { IsChosen aim.chosen }
+    ensures outside { Leaves (F.told folder.old) (F.told folder.new) (SameOutside base_name) }
     ensures stays { Stays (F.told folder.old) (F.told folder.new) }
     ensures fault { IfOk result (λ report. report.why ≡ Why.Fault
         → Rose (F.told folder.old).faults (F.told folder.new).faults) }
@@ -444,6 +452,7 @@ fn run_line<F: Folder, C: Clock>(
         IfDone result (IsRunOn (record { chosen = chosen; bound = line.entry.bound }) line.entry.task.now
         (F.told folder.old) (F.told folder.new)
         (C.last clock.old) (C.last clock.new) (C.answers clock.old) (C.answers clock.new)) }
+    ensures outside { Leaves (F.told folder.old) (F.told folder.new) (SameOutside base_name) }
     ensures stays { Stays (F.told folder.old) (F.told folder.new) }
 {
     match choose(alloc, line.work) {

@@ -48,7 +48,9 @@ fn is_plan_number(digits: &[u8]) -> bool
 {
     match read_decimal(digits) {
         None => false,
-        Some(n) => 1 <= n && n <= u64::from(MOST_PLANS) && digits == Buffer::new().format(n).as_bytes(),
+        Some(n) => 1 <= n
+            && n <= u64::from(MOST_PLANS)
+            && digits == Buffer::new().format(n).as_bytes(),
     }
 }
 

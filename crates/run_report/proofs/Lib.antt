@@ -3,5 +3,6 @@ mod CompleteRuns
 mod EndedTurn
 mod TurnEvents
 mod Lists
-mod PhaseSteps
+pub mod PhaseSteps
 pub mod OneMorePlan
+pub mod PhaseOrder

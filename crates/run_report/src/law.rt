@@ -1,5 +1,5 @@
 // What a loop over turns needs: how a run goes on, turn by turn and phase by phase, and its end.
-ghost use Rattle.std.specs.Prelude.{◌≡◌, ◌+◌, ◌<◌, ℕ, List, [], ◌∷◌, ◌++◌, length, map};
+ghost use Rattle.std.specs.Prelude.{◌≡◌, ◌+◌, ◌-◌, ◌<◌, min, ℕ, List, [], ◌∷◌, ◌++◌, length, map};
 ghost use Rattle.std.specs.Prelude.{Option, Some, None};
 ghost use Rattle.std.specs.Prelude.{true, false, nat_eq, if◌then◌else◌};
 ghost use Rattle.std.specs.List.{last_or};
@@ -89,6 +89,15 @@ pub fn one_more_plan()
         ArePlans parts bound kept → IsPlanOf parts plan.ops plan.cost →
         is_below (last_or bound (map (λ (other : Kept). other.cost) kept)) plan.cost ≡ true →
         ArePlans parts bound (kept ++ plan ∷ []) }
+{}
+
+/// The phases of a search are those of the configuration, in its order: after so many phases the
+/// next one, if there is one, is at that place, from 0, or is the last one again.
+pub fn phases_go_in_order()
+    ensures { (search : Search) (from to : Standing) (past : List ThePast) (plans : List Kept)
+        (place : ℕ) → from.next ≡ Some 0 → 0 < length search.config.phases →
+        Went search from past plans to → to.next ≡ Some place →
+        place ≡ min (length past) (length search.config.phases - 1) }
 {}
 
 /// A search goes on by a phase that found a plan, or that left nothing below the bound.

@@ -33,7 +33,7 @@ loop-phase-preserved g c =
     let goes = c.take_phase.ensures.goes_on (c.in-Ok-None.is ∙ ap Ok c.in-Ok-None.field-0-is) in
     record {
       stays = stays_then (told c.args.folder.now) (told c.loop-phase.folder) (told c.take_phase.new.folder) inv.stays c.take_phase.ensures.stays;
-      outside = outside_then (told c.args.folder.now) (told c.loop-phase.folder) (told c.take_phase.new.folder) (inv.stays.busy ∙ c.requires.idle) inv.outside (rw c.in-Ok-None.is at c.take_phase.ensures.outside);
+      outside = outside_then (told c.args.folder.now) (told c.loop-phase.folder) (told c.take_phase.new.folder) (inv.stays.busy ∙ c.requires.idle) inv.outside c.take_phase.ensures.outside;
       later = omega (arith, inv.later, c.take_phase.ensures.later);
       asks = asks_then true (answers c.args.clock.now) (answers c.loop-phase.clock) (answers c.take_phase.new.clock) inv.asks (rw (c.in-Ok-None.is, c.in-Ok-None.field-0-is) at c.take_phase.ensures.asks);
       config = c.take_phase.ensures.config ∙ inv.config;
@@ -48,7 +48,7 @@ pub returns-in-Ok-Some-clause-outside : goal.returns-in-Ok-Some-clause-outside
 returns-in-Ok-Some-clause-outside g c =
     let told = g.F.Folder.told in
     let inv = c.loop-phase.invariant in
-    outside_then (told c.args.folder.now) (told c.loop-phase.folder) (told c.take_phase.new.folder) (inv.stays.busy ∙ c.requires.idle) inv.outside (rw c.in-Ok-Some.is at c.take_phase.ensures.outside)
+    outside_then (told c.args.folder.now) (told c.loop-phase.folder) (told c.take_phase.new.folder) (inv.stays.busy ∙ c.requires.idle) inv.outside c.take_phase.ensures.outside
 
 pub returns-in-Ok-Some-clause-asks : goal.returns-in-Ok-Some-clause-asks
 returns-in-Ok-Some-clause-asks g c =
@@ -74,3 +74,9 @@ pub returns-in-Err-clause-stopped : goal.returns-in-Err-clause-stopped
 returns-in-Err-clause-stopped g c =
     let inv = c.loop-phase.invariant in
     stopped_so c.args.task.now c.loop-phase.phases c.args.many c.loop-phase.progress c.take_phase.new.progress c.loop-phase.trail c.args.phases.now.config c.args.progress.now.core.setting c.args.trail.now.began inv.searching inv.config inv.setting inv.began (rw c.in-Err.is at c.take_phase.ensures.same)
+
+pub returns-in-Err-clause-outside : goal.returns-in-Err-clause-outside
+returns-in-Err-clause-outside g c =
+    let told = g.F.Folder.told in
+    let inv = c.loop-phase.invariant in
+    outside_then (told c.args.folder.now) (told c.loop-phase.folder) (told c.take_phase.new.folder) (inv.stays.busy ∙ c.requires.idle) inv.outside c.take_phase.ensures.outside

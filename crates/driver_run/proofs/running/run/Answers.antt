@@ -13,4 +13,4 @@ returns-in-Ok-clause-refused g c =
 pub returns-in-Ok-clause-run : goal.returns-in-Ok-clause-run
 returns-in-Ok-clause-run g c =
     run_on_line (map string_bytes c.args.words.now) (seen c.in-Ok.line) _ _ _ _ _ _ c.run_line.result c.in-Ok.ensures
-    (λ bad e. let r = c.run_line.ensures.refused bad e in (ap g.H.Folder.told r.0, r.2)) c.run_line.ensures.accepted c.run_line.ensures.stays
+    (λ bad e. let r = c.run_line.ensures.refused bad e in (ap g.H.Folder.told r.0, r.2)) c.run_line.ensures.accepted c.run_line.ensures.stays c.run_line.ensures.outside

@@ -10,6 +10,7 @@ use Rattle.driver_run.specs.Reports.{IsRunReport, TellsTask}
 use Rattle.driver_run.proofs.Leaving.{cleared_now, plans_cleared, held_after_clearing}
 use Rattle.driver_run.proofs.Reporting.{told_nothing, told_from_start}
 use Rattle.driver_run.proofs.Tells.{if_ok_weaker}
+use Rattle.driver_run.proofs.Placing.{outside_then, cleared_outside}
 use Rattle.driver_run.proofs.running.run_accepted.Goals as goal
 
 pub run_file-requires-clause-cleared : goal.run_file-requires-clause-cleared
@@ -56,3 +57,14 @@ returns-in-Err-clause-told g c =
     told_from_start c.args.aim (last c.args.clock.now) (last c.now-start.new.self) start (answers c.args.clock.now) (answers c.now-start.new.self) (answers c.now-start.new.self) c.stopped.result
     c.now-start.ensures.later c.now-start.ensures.answers
     (told_nothing c.args.aim start (last c.now-start.new.self) (answers c.now-start.new.self) c.is_many-many.result _ _ c.stopped.result c.stopped.ensures c.is_many-many.ensures tt (λ ends. ends) refl asked)
+
+pub returns-in-Ok-clause-outside : goal.returns-in-Ok-clause-outside
+returns-in-Ok-clause-outside g c =
+    let told = g.F.Folder.told in
+    outside_then (told c.args.folder.now) (told c.clear.new.folder) (told c.run_file.new.folder) (c.clear.ensures.keeps.busy ∙ c.requires.idle)
+    (cleared_outside c.clear.result (told c.args.folder.now) (told c.clear.new.folder) c.base-base.result c.base-base.ensures c.clear.ensures.changes) c.run_file.ensures.outside
+
+pub returns-in-Err-clause-outside : goal.returns-in-Err-clause-outside
+returns-in-Err-clause-outside g c =
+    let told = g.F.Folder.told in
+    cleared_outside c.clear.result (told c.args.folder.now) (told c.clear.new.folder) c.base-base.result c.base-base.ensures c.clear.ensures.changes

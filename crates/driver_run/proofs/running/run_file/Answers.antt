@@ -1,4 +1,4 @@
-use Rattle.std.proofs.Common.{◌≡◌, ◌≢◌, refl, [], Some}
+use Rattle.std.proofs.Common.{◌≡◌, ◌≢◌, ◌∙◌, ap, refl, [], Some}
 use Rattle.std.specs.FinMap.{get}
 use Rattle.lama_host.specs.Steps.{Leaves}
 use Rattle.run_report.specs.declared.report.Report.{Report}
@@ -9,6 +9,7 @@ use Rattle.driver_run.specs.Reports.{TellsTask}
 use Rattle.driver_run.proofs.Leaving.{plans_untouched, still_cleared}
 use Rattle.driver_run.proofs.Reporting.{told_nothing}
 use Rattle.driver_run.proofs.Tells.{if_ok_weaker, if_ok_from_both, told_when_solved}
+use Rattle.driver_run.proofs.Placing.{outside_then, same_outside}
 use Rattle.driver_run.proofs.running.run_file.Goals as goal
 
 pub returns-in-Ok-Task-clause-leaves : goal.returns-in-Ok-Task-clause-leaves
@@ -49,3 +50,22 @@ returns-in-Ok-Refused-clause-told g c =
 pub returns-in-Ok-Failed-clause-told : goal.returns-in-Ok-Failed-clause-told
 returns-in-Ok-Failed-clause-told g c =
     told_nothing c.args.aim c.args.start _ _ c.is_many-many.result _ _ c.stopped-in-Ok-Failed.result c.stopped-in-Ok-Failed.ensures c.is_many-many.ensures tt (λ ends. ends) refl c.requires.start
+
+pub returns-in-Ok-Task-clause-outside : goal.returns-in-Ok-Task-clause-outside
+returns-in-Ok-Task-clause-outside g c =
+    let told = g.F.Folder.told in
+    outside_then (told c.args.folder.now) (told c.read_task.new.folder) (told c.run_on_task.new.folder)
+    (ap (λ t. t.busy) c.read_task.ensures.untouched ∙ c.requires.idle)
+    (same_outside (told c.args.folder.now) (told c.read_task.new.folder) c.read_task.ensures.untouched) c.run_on_task.ensures.outside
+
+pub returns-in-Err-clause-outside : goal.returns-in-Err-clause-outside
+returns-in-Err-clause-outside g c = same_outside _ _ c.read_task.ensures.untouched
+
+pub returns-in-Ok-Missing-clause-outside : goal.returns-in-Ok-Missing-clause-outside
+returns-in-Ok-Missing-clause-outside g c = same_outside _ _ c.read_task.ensures.untouched
+
+pub returns-in-Ok-Refused-clause-outside : goal.returns-in-Ok-Refused-clause-outside
+returns-in-Ok-Refused-clause-outside g c = same_outside _ _ c.read_task.ensures.untouched
+
+pub returns-in-Ok-Failed-clause-outside : goal.returns-in-Ok-Failed-clause-outside
+returns-in-Ok-Failed-clause-outside g c = same_outside _ _ c.read_task.ensures.untouched
