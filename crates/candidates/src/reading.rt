@@ -24,7 +24,7 @@ pub enum ReadError {
 }
 
 /// What one turn of reading found.
-#[derive(Clone, Copy, PartialEq, Eq)]
+#[derive(Clone, Copy)]
 enum Turn {
     Missing,
     End,

@@ -29,7 +29,7 @@ pub struct Progress {
 }
 
 /// Why a run stops before its end: a call of the folder failed, or memory was wanting.
-#[derive(Clone, Copy, PartialEq, Eq)]
+#[derive(Clone, Copy)]
 pub enum Stop {
     Fault,
     NoMemory,

@@ -31,7 +31,7 @@ use std::alloc::Global;
 use std::mem::replace;
 
 /// Why a search halts.
-#[derive(Clone, Copy, PartialEq, Eq)]
+#[derive(Clone, Copy)]
 pub(crate) enum Halt {
     AtGoal,
     Exhausted,

@@ -16,7 +16,7 @@ pub(crate) struct Reached {
 
 /// What to do with the state that an entry leads to: nothing, nothing for want of room, or to visit
 /// it under this number, for the first time or again.
-#[derive(Clone, Copy, PartialEq, Eq)]
+#[derive(Clone, Copy)]
 pub(crate) enum Decision {
     Known,
     Full,
@@ -26,7 +26,7 @@ pub(crate) enum Decision {
 
 /// How a turn went: all lists were empty, the search goes on, a goal was visited, or there was no
 /// room for a state.
-#[derive(Clone, Copy, PartialEq, Eq)]
+#[derive(Clone, Copy)]
 pub(crate) enum Turned {
     Empty,
     Done,

@@ -11,7 +11,7 @@ ghost use Rattle.lm_backchain.specs.Backchain.{has as has_fact, is_open as open_
 ghost use Rattle.lm_backchain.specs.Backchain.{is_open_fact as open_fact};
 ghost use Rattle.lm_backchain.specs.Places.{IsPlaceFor, is_at as at_place};
 
-use sas_task::{Fact, Task, is_derived};
+use sas_task::{Fact, Task, holds, is_derived};
 use std::alloc::AllocError;
 
 /// Whether a fact is one of some.
@@ -62,13 +62,6 @@ pub fn put_fact(facts: &mut Vec<Fact>, fact: Fact) -> Result<(), AllocError>
     }
     facts.insert(place, fact)?;
     Ok(())
-}
-
-fn holds(state: &[u32], fact: Fact) -> bool
-    requires { fact.var < length state.now }
-    ensures { result ≡ fact_holds state.now fact }
-{
-    state[fact.var as usize] == fact.val
 }
 
 fn is_open_fact(task: &Task, start: &[u32], fact: Fact) -> bool

@@ -112,7 +112,8 @@ impl Graph {
             slice_get (sets_of self.now.nodes) place ≡ Some facts.now) }
         ensures absent { IfNone result (IsAbsent self.now.nodes facts.now) }
     {
-        let _few = self.nodes.len();
+        // That the places fit is known of the fields, which are read here for that.
+        let _ = self.nodes.len();
         match self.sets.get_index_of(facts) {
             Some(place) => Some(place as u32),
             None => None,

@@ -1,12 +1,11 @@
 // Runs with a bound, and by configurations with limits.
 use crate::folders::plans;
 use crate::runs::{End, Told, finished, tell_of};
-use crate::texts::risen_cost;
 use lama_num::NoMemory;
 use search_log::LimitHit;
 use std::alloc::Global;
 use std::test::Fail;
-use test_tasks::{rivals, three_places};
+use test_tasks::{risen_cost, rivals, three_places};
 
 /// What a run below a bound tells that must leave no plan.
 fn below(alloc: Global, bound: &str) -> Result<Told, NoMemory> {

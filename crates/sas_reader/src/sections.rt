@@ -3,7 +3,7 @@ ghost use Rattle.std.specs.Prelude.{◌≡◌, codes};
 ghost use Rattle.sas_reader.specs.Reading.{begin_of, end_of};
 
 /// A part of a text that stands between a word that begins it and one that ends it.
-#[derive(Clone, Copy, PartialEq, Eq)]
+#[derive(Clone, Copy)]
 pub enum Section {
     Version,
     Metric,

@@ -42,7 +42,8 @@ pub fn are_facts(variables: &[Variable], facts: &[Fact]) -> bool
     facts.iter().all(|fact| is_fact(variables, *fact))
 }
 
-fn holds(state: &[u32], fact: Fact) -> bool
+/// Whether a fact holds in a state.
+pub fn holds(state: &[u32], fact: Fact) -> bool
     requires { fact.var < length state.now }
     ensures { result ≡ fact_holds state.now fact }
 {

@@ -18,7 +18,7 @@ mod tables;
 mod task;
 
 pub use checking::{accepted, check, is_good_rule};
-pub use conditions::{all_hold, is_derived};
+pub use conditions::{all_hold, holds, is_derived};
 pub use contents::{CostKind, Effect, Fact, Operator, Parts, Rule, Variable};
 pub use limits::{
     HIGHEST_COST, HIGHEST_LAYER, LONGEST_NAME, MOST_FACTS, MOST_LISTED, MOST_OPERATORS, MOST_RULES,

@@ -12,5 +12,3 @@ mod landmarks;
 mod random;
 #[cfg(test)]
 mod rows;
-#[cfg(test)]
-mod texts;

@@ -1,12 +1,11 @@
 // Searches whose ends were counted by hand.
 use crate::ends::{End, greedy, searched, timed};
-use crate::texts::risen_cost;
 use host_mem::MemClock;
 use lama_host::Clock;
 use sas_task::CostKind;
 use search_log::{LimitHit, Stop};
 use std::test::Fail;
-use test_tasks::{door, no_operator, rivals, swap, three_places};
+use test_tasks::{door, no_operator, risen_cost, rivals, swap, three_places};
 
 /// Two goals that destroy each other: six pops and nothing is left; fewer are a limit, and the
 /// third finds no room for a third state.

@@ -54,7 +54,8 @@ impl Registry {
     pub fn len(&self) -> u32
         ensures { result ≡ length self.now.states }
     {
-        let _most = self.most;
+        // That the count fits is known of the fields, which are read here for that.
+        let _ = &self.most;
         self.sets.len() as u32
     }
 

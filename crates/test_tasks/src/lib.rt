@@ -12,6 +12,6 @@ pub use four_values::moves;
 pub use parts::{effect, fact, facts, giving, operator, rule, variable};
 pub use reading::{read_task, task, task_of};
 pub use texts::{
-    at_the_goal, cut_short, door, free_moves, no_operator, one_name, rivals, same_names, swap,
-    three_places, two_conditions, two_layers, wide_derived,
+    at_the_goal, cut_short, door, free_moves, no_operator, one_name, risen_cost, rivals,
+    same_names, swap, three_places, two_conditions, two_layers, wide_derived,
 };
