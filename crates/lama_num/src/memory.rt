@@ -5,7 +5,7 @@ use std::alloc::{AllocError, AllocFailed};
 /// It is the one answer that comes without a cause in a contract: no clause ties it to a refused
 /// growth. A call that answers it leaves its `&mut` arguments as they were unless it says
 /// otherwise.
-#[derive(Clone, Copy, PartialEq, Eq)]
+#[derive(Clone, Copy, Debug, PartialEq, Eq)]
 pub struct NoMemory;
 
 impl From<AllocError> for NoMemory {
