@@ -65,7 +65,12 @@ pub(crate) fn growth(
     ))
 }
 
-pub(crate) fn renaming(alloc: Global, old: &str, new: &str, bytes: &[u8]) -> Result<Change, AllocError>
+pub(crate) fn renaming(
+    alloc: Global,
+    old: &str,
+    new: &str,
+    bytes: &[u8],
+) -> Result<Change, AllocError>
     ensures { IfOk result (λ change. change ≡ Change.Moved old.now new.now bytes.now) }
 {
     Ok(Change::Moved(

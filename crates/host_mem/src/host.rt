@@ -20,7 +20,7 @@ use crate::calls::{Fail, HostCall, next_fault};
 use crate::children::{Running, Script, Start, copy_start, end_child};
 use crate::ends::{answer, begin, ended};
 use crate::faults::{log, share, unless_fault};
-use crate::folder::{removal, growth, creation, renaming, read};
+use crate::folder::{creation, growth, read, removal, renaming};
 use crate::journal::{Change, bytes_held, look_up};
 use lama_host::{ChildEnd, Failed, Folder, Host, Limits, Piece};
 use lama_num::Seq;
