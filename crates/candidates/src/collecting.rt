@@ -10,7 +10,7 @@ ghost use Rattle.candidates.specs.Collecting.{IsInTurn, TakesIn, standing};
 ghost use Rattle.candidates.specs.Judging.{Judged, judged_in, AreAllOrFirst};
 
 use crate::judging::judge_file;
-use crate::keeping::take_candidate;
+use crate::keeping::keep_or_drop;
 use crate::offers::Candidate;
 use crate::reading::ReadError;
 use driver_core::Core;
@@ -77,7 +77,7 @@ pub fn collect<F: Folder>(
             }
             return Ok(());
         };
-        take_candidate(
+        keep_or_drop(
             folder, task, base, many, round, entry, number, verdict, core, kept, candidates,
         )?;
     }

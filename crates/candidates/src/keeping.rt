@@ -155,7 +155,7 @@ fn drop_candidate(
 }
 
 /// Keeps the plan in a file, or drops it, as the verdict says.
-pub(crate) fn take_candidate<F: Folder>(
+pub(crate) fn keep_or_drop<F: Folder>(
     folder: &mut F,
     task: &Task,
     base: &NameBuf,

@@ -106,7 +106,7 @@ fn facts_at(alloc: Global, graph: &Graph, place: u32) -> Result<Vec<Fact>, Alloc
     Vec::from_slice(alloc, &node.facts)
 }
 
-fn take_back(
+fn backchain_from(
     task: &Task,
     start: &[u32],
     givers: &Givers,
@@ -156,7 +156,7 @@ pub fn grow(
     let mut singles = Vec::new(alloc);
     let mut place: u32 = 0;
     'places: while (place as usize) < graph.nodes().len() {
-        take_back(task, start, givers, add, graph, &mut singles, place)?;
+        backchain_from(task, start, givers, add, graph, &mut singles, place)?;
         place += 1;
     }
     Ok(singles)

@@ -58,7 +58,8 @@ pub enum Past {
 pub enum Outcome {
     /// No plan is cheaper than the bound.
     Best { space: Space, bound: u64, log: Log },
-    /// No plan exists: these states are all that can be reached, and none is a goal.
+    /// No plan exists. These are the visited states: from each of them that isn't dead every step
+    /// leads to one of them, and none is a goal.
     Unsolvable { space: Space, log: Log },
     /// The last phase left nothing below the bound, which doesn't show that no plan is cheaper.
     Unsolved { space: Space, bound: u64, log: Log },

@@ -94,7 +94,7 @@ fn node_for(branches: &mut Vec<Branch>, step: &Step) -> Result<u32, NoMemory>
 }
 
 /// Takes the steps of a level. Those that come to one node follow one another.
-fn take_steps(
+fn place_steps(
     conditions: &Rows<Fact>,
     depth: usize,
     steps: &[Step],
@@ -159,7 +159,7 @@ pub fn grow(alloc: Global, conditions: &Rows<Fact>) -> Result<Grown, NoMemory>
     for depth in 0..longest(conditions) {
         steps.sort_unstable();
         let mut next = Vec::new(alloc);
-        match take_steps(
+        match place_steps(
             conditions,
             depth,
             &steps,

@@ -81,8 +81,8 @@ returns-in_default-clause-collects g c events is =
     (nothing_there (λ bytes. verdict_of c.args.task.now bytes c.bound-bound.result) c.in_ok-verdict.field-0 (get files c.name.result.now) c.in_default.is (c.in_ok-verdict.ensures.exact files idle held))))
 
 -- the file is there
-pub take_candidate-requires-clause-room : goal.take_candidate-requires-clause-room
-take_candidate-requires-clause-room g c =
+pub keep_or_drop-requires-clause-room : goal.keep_or_drop-requires-clause-room
+keep_or_drop-requires-clause-room g c =
     let told = g.F.Folder.told in
     let turn = turn_of c.args.round c.args.entry in
     let a = standing (told c.args.folder.now) c.args.core.now c.args.kept.now.items c.args.candidates.now.items in
@@ -101,8 +101,8 @@ take_candidate-requires-clause-room g c =
     } in
     room_for_one c.loop-number.core past turn c.loop-number.kept.items c.bound-bound.result now keeps
 
-pub take_candidate-requires-clause-single : goal.take_candidate-requires-clause-single
-take_candidate-requires-clause-single g c one =
+pub keep_or_drop-requires-clause-single : goal.keep_or_drop-requires-clause-single
+keep_or_drop-requires-clause-single g c one =
     let told = g.F.Folder.told in
     let turn = turn_of c.args.round c.args.entry in
     let a = standing (told c.args.folder.now) c.args.core.now c.args.kept.now.items c.args.candidates.now.items in
@@ -121,21 +121,21 @@ take_candidate-requires-clause-single g c one =
     } in
     none_yet c.loop-number.core past turn c.loop-number.kept.items c.bound-bound.result (ap (λ s. s.single) c.loop-number.invariant.setting ∙ c.requires.single one) now keeps
 
-pub returns-in_err-take_candidate-clause-stays : goal.returns-in_err-take_candidate-clause-stays
-returns-in_err-take_candidate-clause-stays g c =
+pub returns-in_err-keep_or_drop-clause-stays : goal.returns-in_err-keep_or_drop-clause-stays
+returns-in_err-keep_or_drop-clause-stays g c =
     let told = g.F.Folder.told in
-    stays_then (told c.args.folder.now) (told c.loop-number.folder) (told c.take_candidate.new.folder) c.loop-number.invariant.stays
-    (stays_then (told c.loop-number.folder) (told c.judge_file.new.folder) (told c.take_candidate.new.folder)
-    (stays_untouched (told c.loop-number.folder) (told c.judge_file.new.folder) c.judge_file.ensures.untouched c.judge_file.ensures.later) c.take_candidate.ensures.stays)
+    stays_then (told c.args.folder.now) (told c.loop-number.folder) (told c.keep_or_drop.new.folder) c.loop-number.invariant.stays
+    (stays_then (told c.loop-number.folder) (told c.judge_file.new.folder) (told c.keep_or_drop.new.folder)
+    (stays_untouched (told c.loop-number.folder) (told c.judge_file.new.folder) c.judge_file.ensures.untouched c.judge_file.ensures.later) c.keep_or_drop.ensures.stays)
 
-pub returns-in_err-take_candidate-clause-collects : goal.returns-in_err-take_candidate-clause-collects
-returns-in_err-take_candidate-clause-collects g c events is =
+pub returns-in_err-keep_or_drop-clause-collects : goal.returns-in_err-keep_or_drop-clause-collects
+returns-in_err-keep_or_drop-clause-collects g c events is =
     let told = g.F.Folder.told in
     let turn = turn_of c.args.round c.args.entry in
     let a = standing (told c.args.folder.now) c.args.core.now c.args.kept.now.items c.args.candidates.now.items in
     let b = standing (told c.loop-number.folder) c.loop-number.core c.loop-number.kept.items c.loop-number.candidates.items in
     let b' = standing (told c.judge_file.new.folder) c.loop-number.core c.loop-number.kept.items c.loop-number.candidates.items in
-    let end = standing (told c.take_candidate.new.folder) c.take_candidate.new.core c.take_candidate.new.kept.items c.take_candidate.new.candidates.items in
+    let end = standing (told c.keep_or_drop.new.folder) c.keep_or_drop.new.core c.keep_or_drop.new.kept.items c.keep_or_drop.new.candidates.items in
     let has = c.loop-number.invariant.collected events is in
     let past = events ++ map (offer_of turn) has.0 in
     let now = in_turn c.args.task.now c.args.base.now c.args.many turn events a b c.loop-number.number has.0 has.1 in
@@ -147,10 +147,10 @@ returns-in_err-take_candidate-clause-collects g c events is =
       present = c.bound-bound.ensures.bound past now.stands;
       keeps = c.bound-bound.ensures.keeps past now.stands over;
     } in
-    ends_early c.from_residual-in_err-take_candidate.result c.in_err-take_candidate.field-0.0 c.args.task.now c.args.base.now c.args.many turn events a b' end c.loop-number.number has.0
+    ends_early c.from_residual-in_err-keep_or_drop.result c.in_err-keep_or_drop.field-0.0 c.args.task.now c.args.base.now c.args.many turn events a b' end c.loop-number.number has.0
     (search rules) (ap (λ t. t.busy) c.judge_file.ensures.untouched ∙ c.loop-number.invariant.stays.busy) c.loop-number.invariant.setting
     (still_collected c.args.task.now c.args.base.now c.args.many turn events a b (told c.judge_file.new.folder) c.loop-number.number has.0 c.judge_file.ensures.untouched has.1)
-    (c.in_err-take_candidate.ensures.takes past c.bound-bound.result now keeps (search rules))
+    (c.in_err-keep_or_drop.ensures.takes past c.bound-bound.result now keeps (search rules))
 
 pub loop-number-preserved : goal.loop-number-preserved
 loop-number-preserved g c =
@@ -159,13 +159,13 @@ loop-number-preserved g c =
     let a = standing (told c.args.folder.now) c.args.core.now c.args.kept.now.items c.args.candidates.now.items in
     let b = standing (told c.loop-number.folder) c.loop-number.core c.loop-number.kept.items c.loop-number.candidates.items in
     let b' = standing (told c.judge_file.new.folder) c.loop-number.core c.loop-number.kept.items c.loop-number.candidates.items in
-    let next = standing (told c.take_candidate.new.folder) c.take_candidate.new.core c.take_candidate.new.kept.items c.take_candidate.new.candidates.items in
+    let next = standing (told c.keep_or_drop.new.folder) c.keep_or_drop.new.core c.keep_or_drop.new.kept.items c.keep_or_drop.new.candidates.items in
     let named = c.name.ensures ∙ c.new-name.ensures ∙ ap (λ child. family_name child c.loop-number.number) c.child-child.ensures.name in
     record {
-      stays = stays_then (told c.args.folder.now) (told c.loop-number.folder) (told c.take_candidate.new.folder) c.loop-number.invariant.stays
-          (stays_then (told c.loop-number.folder) (told c.judge_file.new.folder) (told c.take_candidate.new.folder)
-          (stays_untouched (told c.loop-number.folder) (told c.judge_file.new.folder) c.judge_file.ensures.untouched c.judge_file.ensures.later) c.take_candidate.ensures.stays);
-      setting = c.take_candidate.ensures.setting ∙ c.loop-number.invariant.setting;
+      stays = stays_then (told c.args.folder.now) (told c.loop-number.folder) (told c.keep_or_drop.new.folder) c.loop-number.invariant.stays
+          (stays_then (told c.loop-number.folder) (told c.judge_file.new.folder) (told c.keep_or_drop.new.folder)
+          (stays_untouched (told c.loop-number.folder) (told c.judge_file.new.folder) c.judge_file.ensures.untouched c.judge_file.ensures.later) c.keep_or_drop.ensures.stays);
+      setting = c.keep_or_drop.ensures.setting ∙ c.loop-number.invariant.setting;
       collected = λ events is.
           let has = c.loop-number.invariant.collected events is in
           let past = events ++ map (offer_of turn) has.0 in
@@ -186,7 +186,7 @@ loop-number-preserved g c =
                 c.requires.entry.high (omega arith) (c.loop-number.invariant.stays.busy ∙ c.requires.idle) c.loop-number.invariant.setting c.requires.single has.1
                 (λ files idle held. subst (λ name. IsVerdictOn c.args.task.now c.bound-bound.result (get files name) c.in-Some.verdict) named
                 (verdict_on c.args.task.now c.bound-bound.result c.in_ok-verdict.field-0 (get files c.name.result.now) c.in-Some.verdict c.in-Some.is (c.in_ok-verdict.ensures.exact files idle held))))
-                (c.in_ok-take_candidate.ensures.takes past c.bound-bound.result now keeps (search rules)),
+                (c.in_ok-keep_or_drop.ensures.takes past c.bound-bound.result now keeps (search rules)),
           );
     }
 

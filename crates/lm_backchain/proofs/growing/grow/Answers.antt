@@ -14,24 +14,24 @@ places-init c = record {
   within = omega arith;
 }
 
-pub take_back-requires-clause-place : goal.take_back-requires-clause-place
-take_back-requires-clause-place c = let n = ap length c.nodes.ensures.nodes in omega (arith, n)
+pub backchain_from-requires-clause-place : goal.backchain_from-requires-clause-place
+backchain_from-requires-clause-place c = let n = ap length c.nodes.ensures.nodes in omega (arith, n)
 
-pub take_back-requires-clause-add : goal.take_back-requires-clause-add
-take_back-requires-clause-add c = subst (IsRelaxed c.args.task.now One) (sym c.places.invariant.relaxed) c.requires.add
+pub backchain_from-requires-clause-add : goal.backchain_from-requires-clause-add
+backchain_from-requires-clause-add c = subst (IsRelaxed c.args.task.now One) (sym c.places.invariant.relaxed) c.requires.add
 
-pub take_back-requires-clause-works : goal.take_back-requires-clause-works
-take_back-requires-clause-works c = c.places.invariant.works
+pub backchain_from-requires-clause-works : goal.backchain_from-requires-clause-works
+backchain_from-requires-clause-works c = c.places.invariant.works
 
-pub take_back-requires-clause-kept : goal.take_back-requires-clause-kept
-take_back-requires-clause-kept c = c.places.invariant.kept
+pub backchain_from-requires-clause-kept : goal.backchain_from-requires-clause-kept
+backchain_from-requires-clause-kept c = c.places.invariant.kept
 
 pub places-preserved : goal.places-preserved
-places-preserved c = let lt = c.in_ok-take_back.ensures.place in record {
-  works = c.in_ok-take_back.ensures.works;
-  long = c.in_ok-take_back.ensures.long;
-  kept = c.in_ok-take_back.ensures.kept;
-  relaxed = c.take_back.ensures.add ∙ c.places.invariant.relaxed;
+places-preserved c = let lt = c.in_ok-backchain_from.ensures.place in record {
+  works = c.in_ok-backchain_from.ensures.works;
+  long = c.in_ok-backchain_from.ensures.long;
+  kept = c.in_ok-backchain_from.ensures.kept;
+  relaxed = c.backchain_from.ensures.add ∙ c.places.invariant.relaxed;
   within = omega (arith, lt);
 }
 

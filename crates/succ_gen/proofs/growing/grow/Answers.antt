@@ -2,11 +2,11 @@ use Rattle.std.proofs.Common.{◌≡◌, arith}
 use Rattle.succ_gen.proofs.Levels.{level_sorted, level_last, order_sorted}
 use Rattle.succ_gen.proofs.growing.grow.Goals as goal
 
-pub take_steps-requires-clause-level : goal.take_steps-requires-clause-level
-take_steps-requires-clause-level c = level_sorted c.args.conditions.now c.loop-depth.depth _ _ _ _ _ c.sort_unstable.ensures.permutation c.deref.ensures.value c.loop-depth.invariant
+pub place_steps-requires-clause-level : goal.place_steps-requires-clause-level
+place_steps-requires-clause-level c = level_sorted c.args.conditions.now c.loop-depth.depth _ _ _ _ _ c.sort_unstable.ensures.permutation c.deref.ensures.value c.loop-depth.invariant
 
-pub take_steps-requires-clause-order : goal.take_steps-requires-clause-order
-take_steps-requires-clause-order c = order_sorted _ _ c.sort_unstable.ensures.sorted c.deref.ensures.value
+pub place_steps-requires-clause-order : goal.place_steps-requires-clause-order
+place_steps-requires-clause-order c = order_sorted _ _ c.sort_unstable.ensures.sorted c.deref.ensures.value
 
 pub returns : goal.returns
 returns c =

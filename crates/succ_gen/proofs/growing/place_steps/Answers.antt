@@ -3,7 +3,7 @@ use Rattle.std.proofs.lemmas.Option.{slice_get-get_or}
 use Rattle.succ_gen.specs.declared.growing.Step.{Step}
 use Rattle.succ_gen.specs.Branches.{IsPlaced}
 use Rattle.succ_gen.proofs.Levels.{between_start, between_more, between_all}
-use Rattle.succ_gen.proofs.growing.take_steps.Goals as goal
+use Rattle.succ_gen.proofs.growing.place_steps.Goals as goal
 
 pub loop-step-init : goal.loop-step-init
 loop-step-init c = between_start c.args.conditions.now c.args.depth c.args.steps.now _ _ _ _ c.requires.level refl c.requires.none

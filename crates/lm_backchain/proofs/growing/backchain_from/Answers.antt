@@ -4,7 +4,7 @@ use Rattle.sas_task.specs.declared.contents.Fact.{Fact}
 use Rattle.lm_backchain.specs.Growth.{IsTakenBack}
 use Rattle.lm_backchain.proofs.NewNodes.{still_within, kept_more}
 use Rattle.lm_backchain.proofs.Sound.{node_facts}
-use Rattle.lm_backchain.proofs.growing.take_back.Goals as goal
+use Rattle.lm_backchain.proofs.growing.backchain_from.Goals as goal
 
 pub taken_back-requires-clause-node : goal.taken_back-requires-clause-node
 taken_back-requires-clause-node c = rw c.deref-2.ensures.value (node_facts c.args.task.now c.in_ok-node.node.items c.requires.add.well_formed (c.requires.works.found c.in_ok-node.node.items (record { place = c.args.place; at = c.in_ok-node.ensures })))

@@ -5,7 +5,7 @@ use Rattle.candidates.specs.declared.reading.ReadError.TheVariants.{NoMemory}
 use Rattle.candidates.specs.Collecting.{IsInTurn, standing}
 use Rattle.candidates.specs.Judging.{IsPlanIfGood, HeedsBound}
 use Rattle.candidates.proofs.Taken.{takes_kept, takes_dropped, takes_none, on_ok_so}
-use Rattle.candidates.proofs.keeping.take_candidate.Goals as goal
+use Rattle.candidates.proofs.keeping.keep_or_drop.Goals as goal
 
 pub returns-in-Good-clause-takes : goal.returns-in-Good-clause-takes
 returns-in-Good-clause-takes g c events bound is keeps heeds =
