@@ -54,8 +54,8 @@ impl Registry {
     pub fn len(&self) -> u32
         ensures { result ≡ length self.now.states }
     {
-        // That the count fits is known of the fields, which are read here for that.
-        let _ = &self.most;
+        // Reading it tells its range, within which the count is.
+        let _most = self.most;
         self.sets.len() as u32
     }
 
