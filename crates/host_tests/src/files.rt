@@ -1,7 +1,7 @@
 // Files of the real host.
 use crate::children::succeeds;
 use host_real::RealHost;
-use lama_host::{Folder, Host, Limits, Piece};
+use lama_host::{Failed, Folder, Host, Limits, Piece};
 use std::alloc::Global;
 use std::process::Processes;
 use std::rt::Files;
@@ -135,7 +135,10 @@ fn is_missing_behind_a_child<R: Files + Processes>(
         seconds: None,
         kib: None,
     };
-    host.start(0, words, b"", free).is_ok() && host.wait(0).is_ok() && is_missing(&mut host, "link")
+    match host.start(0, words, b"", free) {
+        Ok(()) => host.wait(0).is_ok() && is_missing(&mut host, "link"),
+        Err(Failed) => false,
+    }
 }
 
 /// Whether a link, a FIFO and a link to itself make way for a file.

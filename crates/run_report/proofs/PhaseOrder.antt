@@ -61,21 +61,25 @@ order_from search at to [] [] p place first lt went next = omega (arith, same_pl
 order_from search at to [] (plan ∷ plans) p place first lt went next = absurd went
 order_from search at to (item.Plan index log ∷ more) [] p place first lt went next = absurd went
 order_from search at to (item.Plan index log ∷ more) (plan ∷ plans) p place first lt went next =
-    by_next (after_plan search at plan.cost (ended.Plan plan.ops plan.cost log)).next refl
+    by_next (after_plan search at plan.cost (ended.Plan plan.ops plan.cost log)).next refl (λ q is here. order_from search (after_plan search at plan.cost (ended.Plan plan.ops plan.cost log)) to more plans q place is here went.2 next)
   where
-    by_next : (n : Option ℕ) → (after_plan search at plan.cost (ended.Plan plan.ops plan.cost log)).next ≡ n → place ≡ min (p + length (item.Plan index log ∷ more)) (length search.config.phases - 1)
-    by_next None is = none_some place _ (sym (none_goes search (after_plan search at plan.cost (ended.Plan plan.ops plan.cost log)) to more plans is went.2) ∙ next)
-    by_next (Some q) is =
+    by_next : (n : Option ℕ) → (after_plan search at plan.cost (ended.Plan plan.ops plan.cost log)).next ≡ n →
+        ((q : ℕ) → (after_plan search at plan.cost (ended.Plan plan.ops plan.cost log)).next ≡ Some q → q < length search.config.phases → place ≡ min (q + length more) (length search.config.phases - 1)) →
+        place ≡ min (p + length (item.Plan index log ∷ more)) (length search.config.phases - 1)
+    by_next None is rest = none_some place _ (sym (none_goes search (after_plan search at plan.cost (ended.Plan plan.ops plan.cost log)) to more plans is went.2) ∙ next)
+    by_next (Some q) is rest =
         let here = plan_next search.config p q at.bound plan.ops plan.cost log lt (ap (λ (n : Option ℕ). next_from search.config (begun n at.bound) (ended.Plan plan.ops plan.cost log)) (sym first) ∙ is) in
-        omega (arith, here, lt, order_from search (after_plan search at plan.cost (ended.Plan plan.ops plan.cost log)) to more plans q place is (omega (arith, here, lt)) went.2 next)
+        omega (arith, here, lt, rest q is (omega (arith, here, lt)))
 order_from search at to (item.Unsolved space bound log ∷ more) plans p place first lt went next =
-    by_next (after_space search at (ended.Unsolved space log false)).next refl
+    by_next (after_space search at (ended.Unsolved space log false)).next refl (λ q is here. order_from search (after_space search at (ended.Unsolved space log false)) to more plans q place is here went.2 next)
   where
-    by_next : (n : Option ℕ) → (after_space search at (ended.Unsolved space log false)).next ≡ n → place ≡ min (p + length (item.Unsolved space bound log ∷ more)) (length search.config.phases - 1)
-    by_next None is = none_some place _ (sym (none_goes search (after_space search at (ended.Unsolved space log false)) to more plans is went.2) ∙ next)
-    by_next (Some q) is =
+    by_next : (n : Option ℕ) → (after_space search at (ended.Unsolved space log false)).next ≡ n →
+        ((q : ℕ) → (after_space search at (ended.Unsolved space log false)).next ≡ Some q → q < length search.config.phases → place ≡ min (q + length more) (length search.config.phases - 1)) →
+        place ≡ min (p + length (item.Unsolved space bound log ∷ more)) (length search.config.phases - 1)
+    by_next None is rest = none_some place _ (sym (none_goes search (after_space search at (ended.Unsolved space log false)) to more plans is went.2) ∙ next)
+    by_next (Some q) is rest =
         let here = space_next search.config p q at.bound (ended.Unsolved space log false) (λ r e. after_is search.config p r lt e) (ap (λ (n : Option ℕ). next_from search.config (begun n at.bound) (ended.Unsolved space log false)) (sym first) ∙ is) in
-        omega (arith, here, lt, order_from search (after_space search at (ended.Unsolved space log false)) to more plans q place is (omega (arith, here, lt)) went.2 next)
+        omega (arith, here, lt, rest q is (omega (arith, here, lt)))
 
 pub in_order : (search : Search) (from to : Standing) (past : List Past) (plans : List Kept) (place : ℕ) → from.next ≡ Some 0 → 0 < length search.config.phases → Went search from past plans to → to.next ≡ Some place → place ≡ min (length past) (length search.config.phases - 1)
 in_order search from to past plans place first some went next = omega (arith, order_from search from to past plans 0 place first some went next)
