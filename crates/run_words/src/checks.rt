@@ -13,7 +13,8 @@ use crate::line::{Given, line};
 use crate::names::is_own;
 use crate::request::{Chosen, Request};
 use crate::values::read_values;
-use portfolio_text::{AliasName, Text};
+use conf_text::AliasName;
+use portfolio_text::Text;
 use std::alloc::{AllocError, Global};
 
 fn has_task(given: &Given) -> bool

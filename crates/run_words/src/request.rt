@@ -1,6 +1,7 @@
 // What words ask for.
+use conf_text::AliasName;
 use lama_num::NameBuf;
-use portfolio_text::{AliasName, Text};
+use portfolio_text::Text;
 
 /// What the words of a command line ask for.
 #[derive(Drop)]
