@@ -4,6 +4,7 @@ use Rattle.std.specs.Prelude.{codes, is_some, not, ◌&&◌}
 use Rattle.std.specs.FinMap.{get}
 use Rattle.lama_host.specs.Folder.{Told, Rose}
 use Rattle.lama_host.specs.Steps.{Leaves, Stays}
+use Rattle.lama_host.proofs.StepLaws.{stays_same}
 use Rattle.plan_manager.specs.Family.{SameOutside}
 use Rattle.lama_num.specs.Gives.{◌>>=◌}
 use Rattle.sas_task.specs.declared.contents.Parts.{Parts}
@@ -200,3 +201,29 @@ run_on_line words line before now last_before last_now answers_before answers_no
     by_chosen : (chosen : Result Chosen ConfBad) → chosen_of line.work ≡ chosen → IsRun words before now last_before last_now answers_before answers_now result
     by_chosen (Ok chosen) at = by_report chosen result (ap request_in (sym is) ∙ ap (request_by line) at) (accepted chosen at)
     by_chosen (Err bad) at = let r = refused bad at in refused_config words bad before now last_before last_now answers_before answers_now result (ap request_in (sym is) ∙ ap (request_by line) at) r.0 r.1 stays outside
+
+-- words that aren't a line
+
+same_fault : (fault other : WordsFault) → ◌≡◌ {A = Result Line WordsFault} (Err fault) (Err other) → fault ≡ other
+same_fault fault other is = cc
+
+pub refused_words : (words : List (List ℕ)) (fault : WordsFault) (told : Told) (last : ℕ) (answers : Option (List ℕ)) (report : Report) → Err fault ≡ line_of words → report ≡ refusal (why.Words fault) →
+    IsRun words told told last last answers answers (ended.Done report)
+refused_words words fault told last answers report is so =
+    let none = λ (other : Request) (at : request_of words ≡ Ok other). no_fault words other fault at (sym is) in
+    record {
+      refused = λ other line. (ap ended.Done (so ∙ ap (λ (f : WordsFault). refusal (why.Words f)) (same_fault fault other (is ∙ line))), refl);
+      no_config = λ bad at. absurd (other_fault words bad fault at (sym is));
+      accepted = λ other at. absurd (none other at);
+      request = λ other at. absurd (none other at);
+      finishes = λ other at. absurd (none other at);
+      many = λ other at. absurd (none other at);
+      plans = λ other at. absurd (none other at);
+      files = λ other at. absurd (none other at);
+      told = λ other at. absurd (none other at);
+      complete = λ other at. absurd (none other at);
+      code = subst (λ (r : Report). r.code ≡ code_of r.why r.kept r.ends) (sym so) refl;
+      fault = subst (λ (r : Report). r.why ≡ why.Fault → Rose told.faults told.faults) (sym so) (λ e. let k : why.Words fault ≡ why.Fault = e in cc);
+      outside = λ files idle held. (files, held, λ name other part. refl);
+      stays = stays_same told;
+    }

@@ -99,7 +99,7 @@ returns-in-Some-clause-ended g c =
     (rw c.in-Best.is at c.next_phase.ensures.ends) (rw c.in-Best.is at c.next_phase.ensures.shows) c.take_best.ensures.counted c.take_best.ensures.none)
 
 pub returns-in-Some-bound-clause-outside : goal.returns-in-Some-bound-clause-outside
-returns-in-Some-bound-clause-outside g c = same_outside _ _ refl
+returns-in-Some-bound-clause-outside g c = same_outside (g.F.Folder.told c.args.folder.now) (g.F.Folder.told c.args.folder.now) refl
 
 pub returns-in-Some-bound-clause-goes_on : goal.returns-in-Some-bound-clause-goes_on
 returns-in-Some-bound-clause-goes_on g c so =

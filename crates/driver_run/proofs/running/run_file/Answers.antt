@@ -59,13 +59,13 @@ returns-in-Ok-Task-clause-outside g c =
     (same_outside (told c.args.folder.now) (told c.read_task.new.folder) c.read_task.ensures.untouched) c.run_on_task.ensures.outside
 
 pub returns-in-Err-clause-outside : goal.returns-in-Err-clause-outside
-returns-in-Err-clause-outside g c = same_outside _ _ c.read_task.ensures.untouched
+returns-in-Err-clause-outside g c = same_outside (g.F.Folder.told c.args.folder.now) (g.F.Folder.told c.read_task.new.folder) c.read_task.ensures.untouched
 
 pub returns-in-Ok-Missing-clause-outside : goal.returns-in-Ok-Missing-clause-outside
-returns-in-Ok-Missing-clause-outside g c = same_outside _ _ c.read_task.ensures.untouched
+returns-in-Ok-Missing-clause-outside g c = same_outside (g.F.Folder.told c.args.folder.now) (g.F.Folder.told c.read_task.new.folder) c.read_task.ensures.untouched
 
 pub returns-in-Ok-Refused-clause-outside : goal.returns-in-Ok-Refused-clause-outside
-returns-in-Ok-Refused-clause-outside g c = same_outside _ _ c.read_task.ensures.untouched
+returns-in-Ok-Refused-clause-outside g c = same_outside (g.F.Folder.told c.args.folder.now) (g.F.Folder.told c.read_task.new.folder) c.read_task.ensures.untouched
 
 pub returns-in-Ok-Failed-clause-outside : goal.returns-in-Ok-Failed-clause-outside
-returns-in-Ok-Failed-clause-outside g c = same_outside _ _ c.read_task.ensures.untouched
+returns-in-Ok-Failed-clause-outside g c = same_outside (g.F.Folder.told c.args.folder.now) (g.F.Folder.told c.read_task.new.folder) c.read_task.ensures.untouched
