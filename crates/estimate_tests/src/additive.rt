@@ -18,14 +18,6 @@ fn moves_that_cost(rt: HostRuntime) -> Result<(), Fail> {
 }
 
 #[test]
-fn moves_at_one_each(rt: HostRuntime) -> Result<(), Fail> {
-    let task = moves(rt.alloc(), 4, 3, 2)?;
-    let one = answers(rt.alloc(), task, CostKind::One, &[1])?;
-    assert!(rt; one.as_slice() == [1, 0, 1, NEVER, 1, 0, 1].as_slice());
-    Ok(())
-}
-
-#[test]
 fn supporters_in_order(rt: HostRuntime) -> Result<(), Fail> {
     let task = moves(rt.alloc(), 4, 3, 2)?;
     let order = order(rt.alloc(), task, &[0])?;
@@ -47,15 +39,6 @@ fn a_door_that_must_be_shut_again(rt: HostRuntime) -> Result<(), Fail> {
     let open = task(rt.alloc(), door())?;
     let open = answers(rt.alloc(), open, CostKind::Normal, &[1, 0, 1])?;
     assert!(rt; open.as_slice() == [1, 0, 0, 1, 0, 0, 1, 0, 1].as_slice());
-    Ok(())
-}
-
-#[test]
-fn a_door_that_nobody_is_at(rt: HostRuntime) -> Result<(), Fail> {
-    let shut = task(rt.alloc(), door())?;
-    let shut = answers(rt.alloc(), shut, CostKind::Normal, &[0, 0, 0])?;
-    let worked = [0, NEVER, 0, NEVER, 0, NEVER, NEVER, 1, NEVER];
-    assert!(rt; shut.as_slice() == worked.as_slice());
     Ok(())
 }
 

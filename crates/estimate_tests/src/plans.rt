@@ -1,6 +1,6 @@
 // Relaxed plans that were worked by hand: the additive estimate, that of FF, the plan's operators,
 // and the preferred ones.
-use crate::plan_answers::{AND, NEVER, answers};
+use crate::plan_answers::{AND, answers};
 use std::test::Fail;
 use test_tasks::{door, moves, rivals, task};
 
@@ -9,22 +9,6 @@ fn one_of_two_equal_supporters(rt: HostRuntime) -> Result<(), Fail> {
     let task = moves(rt.alloc(), 0, 3, 2)?;
     let far = answers(&rt, task, &[0])?;
     assert!(rt; far.as_slice() == [3, 3, 0, 2, AND, 0].as_slice());
-    Ok(())
-}
-
-#[test]
-fn one_of_two_equal_supporters_nearby(rt: HostRuntime) -> Result<(), Fail> {
-    let task = moves(rt.alloc(), 0, 3, 2)?;
-    let near = answers(&rt, task, &[1])?;
-    assert!(rt; near.as_slice() == [3, 3, 2, AND, 2].as_slice());
-    Ok(())
-}
-
-#[test]
-fn nothing_is_left_at_the_goal(rt: HostRuntime) -> Result<(), Fail> {
-    let task = moves(rt.alloc(), 0, 3, 2)?;
-    let there = answers(&rt, task, &[2])?;
-    assert!(rt; there.as_slice() == [0, 0, AND].as_slice());
     Ok(())
 }
 
@@ -49,13 +33,5 @@ fn a_door_that_must_be_shut_again(rt: HostRuntime) -> Result<(), Fail> {
     let task = task(rt.alloc(), door())?;
     let open = answers(&rt, task, &[1, 0, 1])?;
     assert!(rt; open.as_slice() == [1, 1, 0, AND, 0].as_slice());
-    Ok(())
-}
-
-#[test]
-fn a_door_that_nobody_is_at(rt: HostRuntime) -> Result<(), Fail> {
-    let task = task(rt.alloc(), door())?;
-    let shut = answers(&rt, task, &[0, 0, 0])?;
-    assert!(rt; shut.as_slice() == [NEVER, NEVER, AND].as_slice());
     Ok(())
 }

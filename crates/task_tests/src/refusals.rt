@@ -60,69 +60,38 @@ fn is_too_large(
 }
 
 #[test]
-fn lines_that_are_refused(rt: HostRuntime) {
+fn lines_and_numbers_that_are_refused(rt: HostRuntime) {
     let alloc = rt.alloc();
     assert!(rt; is_bad_line(alloc, places(), 1, b"begin_versio", Want::Word));
-    assert!(rt; is_bad_line(alloc, places(), 45, b"end_operator x", Want::Word));
     assert!(rt; is_bad_line(alloc, places(), 2, b"4", Want::Version));
     assert!(rt; is_bad_line(alloc, places(), 5, b"2", Want::Metric));
-    assert!(rt; is_bad_line(alloc, places(), 9, b"", Want::Name));
     assert!(rt; is_bad_line(alloc, places(), 40, b" \t", Want::Name));
-    assert!(rt;
-        is_refused(
-            alloc,
-            places(),
-            46,
-            b"0\n\nx",
-            SasFault::Trailing { line: 48 }
-        )
-    );
-    assert!(rt; is_refused(alloc, places(), 46, b"1", SasFault::CutShort { line: 47 }));
     assert!(rt; is_bad_line(alloc, places(), 5, b"2\n4", Want::Metric));
-}
-
-#[test]
-fn numbers_that_are_refused(rt: HostRuntime) {
-    let alloc = rt.alloc();
-    assert!(rt; is_bad_number(alloc, places(), 7, b""));
     assert!(rt; is_bad_number(alloc, places(), 7, b"-1"));
-    assert!(rt; is_bad_number(alloc, places(), 11, b"0"));
-    assert!(rt; is_bad_number(alloc, places(), 22, b"0 2 0"));
-    assert!(rt; is_bad_number(alloc, places(), 29, b"0 0 0 -1"));
     assert!(rt; is_bad_number(alloc, places(), 29, b"0 0 0"));
     assert!(rt; is_bad_number(alloc, places(), 30, b"18446744073709551616"));
-    assert!(rt; is_bad_number(alloc, places(), 46, b"0 0"));
+    assert!(rt; is_bad_number(alloc, layers(), 49, b"1 1 -1 0 0 1"));
 }
 
 #[test]
-fn facts_that_are_refused(rt: HostRuntime) {
+fn facts_and_rules_that_are_refused(rt: HostRuntime) {
     let alloc = rt.alloc();
     assert!(rt; is_bad_fact(alloc, places(), 18, b"3"));
-    assert!(rt; is_bad_fact(alloc, places(), 22, b"1 0"));
     assert!(rt; is_bad_fact(alloc, places(), 29, b"0 1099511627776 0 1"));
-    assert!(rt; is_bad_fact(alloc, places(), 43, b"0 0 3 0"));
+    assert!(rt; is_bad_fact(alloc, layers(), 49, b"0 1 0 1"));
+    assert!(rt; is_bad_fact(alloc, layers(), 66, b"1 1 2"));
+    assert!(rt; is_refused(alloc, layers(), 18, b"3", SasFault::WideDerived { var: 1 }));
+    assert!(rt; is_refused(alloc, layers(), 55, b"2 1", SasFault::BadRule { line: 56 }));
 }
 
 #[test]
 fn counts_that_are_too_large(rt: HostRuntime) {
     let alloc = rt.alloc();
+    let (cost, rules) = (2_147_483_648, 18_446_744_073_709_551_615);
     assert!(rt; is_too_large(alloc, places(), 7, b"1048577", What::Variables, 1_048_577));
-    assert!(rt; is_too_large(alloc, places(), 11, b"1048577", What::Range, 1_048_577));
-    assert!(rt; is_too_large(alloc, places(), 16, b"1048577", What::Groups, 1_048_577));
-    assert!(rt; is_too_large(alloc, places(), 21, b"1048577", What::Goals, 1_048_577));
     assert!(rt; is_too_large(alloc, places(), 24, b"4194305", What::Operators, 4_194_305));
     assert!(rt; is_too_large(alloc, places(), 27, b"1048577", What::Conditions, 1_048_577));
-    assert!(rt; is_too_large(alloc, places(), 28, b"1048577", What::Effects, 1_048_577));
-    assert!(rt;
-        is_too_large(
-            alloc,
-            places(),
-            30,
-            b"2147483648",
-            What::Cost,
-            2_147_483_648
-        )
-    );
+    assert!(rt; is_too_large(alloc, places(), 30, b"2147483648", What::Cost, cost));
     assert!(rt;
         is_too_large(
             alloc,
@@ -130,56 +99,11 @@ fn counts_that_are_too_large(rt: HostRuntime) {
             46,
             b"18446744073709551615",
             What::Rules,
-            18_446_744_073_709_551_615
+            rules
         )
     );
-}
-
-#[test]
-fn numbers_and_facts_of_layers(rt: HostRuntime) {
-    let alloc = rt.alloc();
-    assert!(rt; is_bad_number(alloc, layers(), 10, b"x"));
-    assert!(rt; is_bad_fact(alloc, layers(), 32, b"0 2"));
-    assert!(rt; is_bad_fact(alloc, layers(), 38, b"2"));
-    assert!(rt; is_bad_fact(alloc, layers(), 49, b"0 1 0 1"));
-    assert!(rt; is_bad_fact(alloc, layers(), 49, b"1 1 2 0 0 1"));
-    assert!(rt; is_bad_number(alloc, layers(), 49, b"1 1 0 0 -1 1 0"));
-    assert!(rt; is_bad_number(alloc, layers(), 49, b"1 1 -1 0 0 1"));
-    assert!(rt; is_bad_fact(alloc, layers(), 56, b"1 2 1"));
-    assert!(rt; is_bad_fact(alloc, layers(), 66, b"1 1 2"));
-    assert!(rt; is_bad_number(alloc, layers(), 66, b"1 -1 0"));
-}
-
-#[test]
-fn rules_and_counts_of_layers(rt: HostRuntime) {
-    let alloc = rt.alloc();
     assert!(rt; is_too_large(alloc, layers(), 17, b"1048577", What::Layer, 1_048_577));
-    assert!(rt; is_refused(alloc, layers(), 18, b"3", SasFault::WideDerived { var: 1 }));
-    assert!(rt; is_refused(alloc, layers(), 25, b"1", SasFault::WideDerived { var: 2 }));
     assert!(rt; is_too_large(alloc, layers(), 31, b"1048577", What::GroupFacts, 1_048_577));
-    assert!(rt; is_too_large(alloc, layers(), 54, b"1048577", What::Conditions, 1_048_577));
-    assert!(rt; is_refused(alloc, layers(), 55, b"2 1", SasFault::BadRule { line: 56 }));
-    assert!(rt;
-        is_refused(
-            alloc,
-            layers(),
-            56,
-            b"0 0 1",
-            SasFault::BadRule { line: 56 }
-        )
-    );
-    assert!(rt; is_refused(alloc, layers(), 60, b"2 0", SasFault::BadRule { line: 61 }));
-    assert!(rt; is_too_large(alloc, layers(), 64, b"1048577", What::Conditions, 1_048_577));
-    assert!(rt;
-        is_refused(
-            alloc,
-            layers(),
-            66,
-            b"0 1 0",
-            SasFault::BadRule { line: 66 }
-        )
-    );
-    assert!(rt; is_bad_line(alloc, layers(), 67, b"end", Want::Word));
 }
 
 /// Whether the first lines of a text are cut short at the next.
